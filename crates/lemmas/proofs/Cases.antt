@@ -1,0 +1,20 @@
+-- A result that a branch or a match picked, against a definition by `cond` or by cases. Assumes nothing.
+use mathlib.Core.Path.{_≡_, sym, _∙_, ap}
+use mathlib.Core.Bool.{Bool, true, false, cond}
+
+module _ {A : Type 0} where
+  -- the branch whose test was true
+  pub at-true : {b : Bool} {x r : A} (y : A) → b ≡ true → r ≡ x → r ≡ cond b x y
+  at-true {x = x} y e h = h ∙ ap (λ (t : Bool). cond t x y) (sym e)
+
+  -- the branch whose test was false
+  pub at-false : {b : Bool} {y r : A} (x : A) → b ≡ false → r ≡ y → r ≡ cond b x y
+  at-false {y = y} x e h = h ∙ ap (λ (t : Bool). cond t x y) (sym e)
+
+-- what a callee said of a flag, with the flag's value
+pub flag : {p q v : Bool} → p ≡ q → p ≡ v → q ≡ v
+flag e h = sym e ∙ h
+
+-- the arm of a match: f goes by cases, a is the value, b its constructor
+pub in-arm : {A B : Type 0} (f : A → B) {a b : A} {r : B} → a ≡ b → r ≡ f b → r ≡ f a
+in-arm f e h = h ∙ ap f (sym e)

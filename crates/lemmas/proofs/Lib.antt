@@ -1,0 +1,4 @@
+-- The laws that every crate cites: branches and matches, Boolean tests, lists.
+pub mod Cases
+pub mod Tests
+pub mod Lists

@@ -1,0 +1,2 @@
+-- The definitions on lists that the specifications above share.
+pub mod Lists

@@ -1,0 +1,279 @@
+-- Membership after each operation, and when two sets are equal: for every width. Assumes nothing.
+use mathlib.Core.Path.{_≡_, refl, sym, ap, ap₂, _∙_}
+use mathlib.Core.Bool.{Bool, true, false}
+use mathlib.Core.Logic.{_⊎_, inl, inr, ⊎-elim}
+use mathlib.Core.List.{List, [], _∷_, List·Memᴰ}
+use Prim.Native.Nat.{ℕ, zero, suc, _+_, _-_, _*_, _/_, _%_, _^_, _≤_, _<_, zero-le, suc-le-suc, min, max}
+use native.Mathlib.Nat.{mod-lt, zero-lt-suc, div-one, le-of-suc-le-suc, not-suc-le-zero, div-add-mod', pow-suc, one-mul, div-eq-of-lt, le-dest, lt-of-lt-of-le, lt-suc-self, eq-or-lt-of-le, le-refl, le-trans, mod-eq-of-lt, mul-mod-left}
+use native.Mathlib.Omega.{arith}
+use native.Mathlib.Numerals.{add-one, one-add}
+use native.Mathlib.Decide.{decLt, ℕ-discrete}
+use lib.Dec.{eqb, lit<}
+use lib.Arith.{lt-one, digits-mod}
+use lib.Pow.{pow-pos, pow-add, shr-shr, pow-lt, shl-shr, shr-lt, pow-mono, field, mod-mod-pow, ones-lt, shl-exact}
+use lib.Bits.{bitAnd, bitOr, bitXor, differ, and-shr, or-shr, xor-shr, and-step, or-step, xor-step, or-lt, and-le-l}
+use borrow.Author.Tests.{eqb-true, eqb-false, eq-eqb, ne-eqb}
+use Rattle.lemmas.proofs.Tests.{not-true-false, not-both}
+use Rattle.nodes.specs.Sets.{bit, In, has, union, meet, minus, single, with, below, inside, Inside, keep, gather, setOf}
+
+-- ---- a digit
+pub bit-le : (s k : ℕ) → bit s k ≤ 1
+unfolding bit
+bit-le s k = le-of-suc-le-suc (mod-lt (s / 2 ^ k) (zero-lt-suc 1))
+
+pub bit-zero : (s : ℕ) → bit s 0 ≡ s % 2
+unfolding bit
+bit-zero s = ap (λ (x : ℕ). x % 2) (div-one s)
+
+pub bit-suc : (s k : ℕ) → bit s (suc k) ≡ bit (s / 2) k
+unfolding bit
+bit-suc s k = ap (λ (x : ℕ). x % 2) (sym (shr-shr s 1 k ∙ ap (λ (x : ℕ). s / 2 ^ x) (one-add k)))
+
+digit-cases : (d : ℕ) → d ≤ 1 → (d ≡ 1) ⊎ (d ≡ 0)
+digit-cases zero h = inr refl
+digit-cases (suc zero) h = inl refl
+digit-cases (suc (suc d)) h = absurd (omega arith)
+
+pub in-or-out : (s k : ℕ) → In k s ⊎ (bit s k ≡ 0)
+in-or-out s k = digit-cases (bit s k) (bit-le s k)
+
+-- a set below 2 ^ w has no member from w on
+pub bit-above : (w s k : ℕ) → s < 2 ^ w → w ≤ k → bit s k ≡ 0
+unfolding bit
+bit-above w s k h l = ap (λ (x : ℕ). x % 2) (div-eq-of-lt (lt-of-lt-of-le h (pow-mono l)))
+
+pub in-lt : (w s k : ℕ) → s < 2 ^ w → In k s → k < w
+in-lt w s k h e = elim (decLt k w) [ yes l ↦ l | no l ↦ absurd (let z = bit-above w s k h (omega arith) in omega arith) ]
+
+-- the digits below w are those of the rest by 2 ^ w
+pub bit-mod : (w s k : ℕ) → k < w → bit (s % 2 ^ w) k ≡ bit s k
+unfolding bit
+bit-mod w s k h =
+    let d = le-dest h in
+    let e : w ≡ suc (d .0) + k = omega (arith, d .1) in
+    ap (λ (x : ℕ). s % 2 ^ x / 2 ^ k % 2) e ∙ ap (λ (x : ℕ). x % 2) (field s (suc (d .0)) k)
+    ∙ ap (λ (x : ℕ). s / 2 ^ k % 2 ^ x % 2) (sym (add-one (d .0))) ∙ mod-mod-pow (s / 2 ^ k) (d .0) 1
+
+-- ---- the test of membership
+pub has-in : (s k : ℕ) → has s k ≡ true → In k s
+unfolding has bit
+has-in s k e = eqb-true _ _ e
+
+pub in-has : (s k : ℕ) → In k s → has s k ≡ true
+unfolding has bit
+in-has s k e = eq-eqb _ _ e
+
+pub has-out : (s k : ℕ) → has s k ≡ false → bit s k ≡ 0
+has-out s k e = ⊎-elim (λ (i : bit s k ≡ 1). absurd (not-both (in-has s k i) e)) (λ (z : bit s k ≡ 0). z) (in-or-out s k)
+
+pub out-has : (s k : ℕ) → bit s k ≡ 0 → has s k ≡ false
+out-has s k z = not-true-false _ (λ e. let i = has-in s k e in omega arith)
+
+pub has-bit : (s k : ℕ) → has s k ≡ eqb (bit s k) 1
+unfolding has bit
+has-bit s k = refl
+
+-- ---- two sets with the same members are equal
+pub same-below : (w a b : ℕ) → a < 2 ^ w → b < 2 ^ w → ((k : ℕ) → k < w → bit a k ≡ bit b k) → a ≡ b
+same-below zero a b ha hb e = lt-one ha ∙ sym (lt-one hb)
+same-below (suc w) a b ha hb e =
+    sym (div-add-mod' a 2)
+    ∙ ap₂ (λ (x y : ℕ). x * 2 + y)
+    (same-below w (a / 2) (b / 2) (shr-lt w 1 (rw add-one ha)) (shr-lt w 1 (rw add-one hb))
+    (λ k h. sym (bit-suc a k) ∙ e (suc k) (suc-le-suc h) ∙ bit-suc b k))
+    (sym (bit-zero a) ∙ e 0 (zero-lt-suc w) ∙ bit-zero b)
+    ∙ div-add-mod' b 2
+
+pub pow-gt : (n : ℕ) → n < 2 ^ n
+pow-gt zero = le-refl 1
+pow-gt (suc n) = omega (arith, pow-gt n, pow-suc 2 n)
+
+-- whatever their width
+pub same : (a b : ℕ) → ((k : ℕ) → bit a k ≡ bit b k) → a ≡ b
+same a b h = same-below (a + b) a b (lt-of-lt-of-le (pow-gt a) (pow-mono (omega arith))) (lt-of-lt-of-le (pow-gt b) (pow-mono (omega arith))) (λ k _. h k)
+
+-- ---- the empty set
+pub bit-empty : (k : ℕ) → bit 0 k ≡ 0
+bit-empty k = bit-above 0 0 k (pow-pos 0) zero-le
+
+pub empty-same : (s : ℕ) → ((k : ℕ) → bit s k ≡ 0) → s ≡ 0
+empty-same s h = same s 0 (λ k. h k ∙ sym (bit-empty k))
+
+-- ---- union, meet, minus
+pub bit-meet : (a b k : ℕ) → bit (meet a b) k ≡ min (bit a k) (bit b k)
+unfolding bit meet
+bit-meet a b k =
+    ap (λ (x : ℕ). x % 2) (and-shr a b k ∙ and-step (a / 2 ^ k) (b / 2 ^ k))
+    ∙ digits-mod (bitAnd (a / 2 ^ k / 2) (b / 2 ^ k / 2)) (omega arith)
+
+pub bit-union : (a b k : ℕ) → bit (union a b) k ≡ max (bit a k) (bit b k)
+unfolding bit union
+bit-union a b k =
+    ap (λ (x : ℕ). x % 2) (or-shr a b k ∙ or-step (a / 2 ^ k) (b / 2 ^ k))
+    ∙ digits-mod (bitOr (a / 2 ^ k / 2) (b / 2 ^ k / 2)) (omega arith)
+
+differ-lt : (x y : ℕ) → x < 2 → y < 2 → differ x y < 2
+differ-lt zero y p q = q
+differ-lt (suc zero) zero p q = p
+differ-lt (suc zero) (suc zero) p q = lit< tt
+differ-lt (suc zero) (suc (suc y)) p q = absurd (omega arith)
+differ-lt (suc (suc x)) y p q = absurd (omega arith)
+
+differ-sub : (x y : ℕ) → x ≤ 1 → y ≤ 1 → differ x (min x y) ≡ x - y
+differ-sub zero y p q = omega arith
+differ-sub (suc zero) zero p q = refl
+differ-sub (suc zero) (suc zero) p q = refl
+differ-sub (suc zero) (suc (suc y)) p q = absurd (omega arith)
+differ-sub (suc (suc x)) y p q = absurd (omega arith)
+
+bit-xor : (a b k : ℕ) → bit (bitXor a b) k ≡ differ (bit a k) (bit b k)
+unfolding bit
+bit-xor a b k =
+    ap (λ (x : ℕ). x % 2) (xor-shr a b k ∙ xor-step (a / 2 ^ k) (b / 2 ^ k))
+    ∙ digits-mod (bitXor (a / 2 ^ k / 2) (b / 2 ^ k / 2)) (differ-lt (a / 2 ^ k % 2) (b / 2 ^ k % 2) (omega arith) (omega arith))
+
+pub bit-minus : (a b k : ℕ) → bit (minus a b) k ≡ bit a k - bit b k
+unfolding minus meet
+bit-minus a b k =
+    bit-xor a (meet a b) k ∙ ap (differ (bit a k)) (bit-meet a b k) ∙ differ-sub (bit a k) (bit b k) (bit-le a k) (bit-le b k)
+
+pub meet-lt : (w a b : ℕ) → a < 2 ^ w → meet a b < 2 ^ w
+unfolding meet
+meet-lt w a b h = native.Mathlib.Nat.lt-of-le-of-lt (and-le-l a b) h
+
+pub union-lt : (w a b : ℕ) → a < 2 ^ w → b < 2 ^ w → union a b < 2 ^ w
+unfolding union
+union-lt w a b ha hb = or-lt w a b ha hb
+
+-- ---- one node
+pub bit-single-same : (k : ℕ) → bit (single k) k ≡ 1
+unfolding bit single
+bit-single-same k = ap (λ (x : ℕ). x % 2) (ap (λ (x : ℕ). x / 2 ^ k) (sym (one-mul (2 ^ k))) ∙ shl-shr 1 k)
+
+bit-single-above : (k j : ℕ) → k < j → bit (single k) j ≡ 0
+unfolding single
+bit-single-above k j h = bit-above (suc k) (2 ^ k) j (pow-lt (lt-suc-self k)) h
+
+bit-single-below : (k j : ℕ) → j < k → bit (single k) j ≡ 0
+unfolding bit single
+bit-single-below k j h =
+    let d = le-dest h in
+    let e : k ≡ suc (d .0) + j = omega (arith, d .1) in
+    ap (λ (x : ℕ). 2 ^ x / 2 ^ j % 2) e ∙ ap (λ (x : ℕ). x / 2 ^ j % 2) (pow-add 2 (suc (d .0)) j)
+    ∙ ap (λ (x : ℕ). x % 2) (shl-shr (2 ^ suc (d .0)) j ∙ pow-suc 2 (d .0)) ∙ mul-mod-left (2 ^ (d .0)) 2
+
+pub bit-single-other : (k j : ℕ) → (j ≡ k → ⊥) → bit (single k) j ≡ 0
+bit-single-other k j ne = elim (decLt j k) [ yes h ↦ bit-single-below k j h | no h ↦ bit-single-above k j (omega arith) ]
+
+pub with-union : (s k : ℕ) → with s k ≡ union s (single k)
+unfolding with union single
+with-union s k = refl
+
+pub bit-with-same : (s k : ℕ) → bit (with s k) k ≡ 1
+bit-with-same s k = rw (with-union s k) (omega (arith, bit-union s (single k) k, bit-single-same k, bit-le s k))
+
+pub bit-with-other : (s k j : ℕ) → (j ≡ k → ⊥) → bit (with s k) j ≡ bit s j
+bit-with-other s k j ne = rw (with-union s k) (omega (arith, bit-union s (single k) j, bit-single-other k j ne))
+
+pub with-lt : (w s k : ℕ) → s < 2 ^ w → k < w → with s k < 2 ^ w
+unfolding with
+with-lt w s k hs hk = or-lt w s (2 ^ k) hs (pow-lt hk)
+
+pub with-grows : (s k : ℕ) → Inside s (with s k)
+with-grows s k j = rw (with-union s k) (omega (arith, bit-union s (single k) j))
+
+-- the word of one place, as the machine shifts it
+pub shl-one : (w k : ℕ) → k < w → (1 * 2 ^ k) % 2 ^ w ≡ 2 ^ k
+shl-one w k h = shl-exact 1 k w (lit< tt) (omega arith) ∙ one-mul (2 ^ k)
+
+-- ---- all nodes below n
+pub below-lt : (n : ℕ) → below n < 2 ^ n
+unfolding below
+below-lt n = ones-lt n
+
+-- the highest digit over a lower part of n digits
+top-digit : (n lo k : ℕ) → lo < 2 ^ n → bit (2 ^ n + lo) n ≡ 1
+unfolding bit
+top-digit n lo k h =
+    ap (λ (x : ℕ). x % 2) (ap (λ (x : ℕ). (x + lo) / 2 ^ n) (sym (one-mul (2 ^ n))) ∙ lib.Pow.high 1 n h)
+
+pub bit-below : (n k : ℕ) → k < n → bit (below n) k ≡ 1
+unfolding below
+bit-below zero k h = absurd (not-suc-le-zero h)
+bit-below (suc n) k h =
+    let p = pow-pos n in
+    let e : 2 ^ suc n - 1 ≡ 2 ^ n + (2 ^ n - 1) = omega (arith, pow-suc 2 n) in
+    let ih = bit-below n k in
+    ⊎-elim
+    (λ (q : k ≡ n). ap₂ bit e q ∙ top-digit n (2 ^ n - 1) n (ones-lt n))
+    (λ (q : k < n). ap (λ (x : ℕ). bit x k) e ∙ sym (bit-mod n (2 ^ n + (2 ^ n - 1)) k q)
+    ∙ ap (λ (x : ℕ). bit x k) (ap (λ (x : ℕ). (x + (2 ^ n - 1)) % 2 ^ n) (sym (one-mul (2 ^ n))) ∙ lib.Pow.low 1 n (ones-lt n)) ∙ ih q)
+    (eq-or-lt-of-le (le-of-suc-le-suc h))
+
+pub below-in : (n k : ℕ) → In k (below n) → k < n
+below-in n k i = in-lt n (below n) k (below-lt n) i
+
+-- ---- inside, as membership
+pub inside-of : (a b : ℕ) → inside a b ≡ true → Inside a b
+unfolding inside meet
+inside-of a b e k = let q : meet a b ≡ a = eqb-true _ _ e in omega (arith, bit-meet a b k, ap (λ (x : ℕ). bit x k) q)
+
+pub of-inside : (a b : ℕ) → Inside a b → inside a b ≡ true
+unfolding inside meet
+of-inside a b h = eq-eqb _ _ (same (meet a b) a (λ k. omega (arith, bit-meet a b k, h k)))
+
+pub inside-in : (a b : ℕ) → ((k : ℕ) → In k a → In k b) → Inside a b
+inside-in a b f k = ⊎-elim (λ (e : bit a k ≡ 1). omega (arith, f k e)) (λ (e : bit a k ≡ 0). omega arith) (in-or-out a k)
+
+pub inside-member : (a b k : ℕ) → Inside a b → In k a → In k b
+inside-member a b k h i = omega (arith, h k, bit-le b k)
+
+pub inside-trans : (a b c : ℕ) → Inside a b → Inside b c → Inside a c
+inside-trans a b c f g k = le-trans (f k) (g k)
+
+pub not-inside : (a b k : ℕ) → bit b k < bit a k → inside a b ≡ false
+not-inside a b k h = not-true-false _ (λ e. let q = inside-of a b e k in omega arith)
+
+-- ---- the set of the nodes below n of which f is true
+pub gather-lt : (f : ℕ → Bool) (n : ℕ) → gather f n < 2 ^ n
+unfolding gather
+gather-lt f zero = lit< tt
+gather-lt f (suc n) = go (lt-of-lt-of-le (gather-lt f n) (pow-mono (omega arith))) (f n)
+  where
+    go : gather f n < 2 ^ suc n → (t : Bool) → keep t n (gather f n) < 2 ^ suc n
+    go h true = with-lt (suc n) (gather f n) n h (le-refl (suc n))
+    go h false = h
+
+pub has-gather : (f : ℕ → Bool) (n k : ℕ) → k < n → has (gather f n) k ≡ f k
+unfolding gather
+has-gather f zero k h = absurd (not-suc-le-zero h)
+has-gather f (suc n) k h = go (has-gather f n k) (eq-or-lt-of-le (le-of-suc-le-suc h)) (f n) refl
+  where
+    go : (k < n → has (gather f n) k ≡ f k) → (k ≡ n) ⊎ (k < n) → (t : Bool) → f n ≡ t → has (keep t n (gather f n)) k ≡ f k
+    go ih (inl q) true e = rw q (in-has _ _ (bit-with-same (gather f n) n) ∙ sym e)
+    go ih (inl q) false e = rw q (out-has _ _ (bit-above n (gather f n) n (gather-lt f n) (le-refl n)) ∙ sym e)
+    go ih (inr q) true e =
+        has-bit _ k ∙ ap (λ (x : ℕ). eqb x 1) (bit-with-other (gather f n) n k (λ r. omega arith)) ∙ sym (has-bit _ k) ∙ ih q
+    go ih (inr q) false e = ih q
+
+pub gather-in : (f : ℕ → Bool) (n k : ℕ) → k < n → f k ≡ true → In k (gather f n)
+gather-in f n k h e = has-in _ _ (has-gather f n k h ∙ e)
+
+pub in-gather : (f : ℕ → Bool) (n k : ℕ) → In k (gather f n) → (k < n) × (f k ≡ true)
+in-gather f n k i =
+    let l = in-lt n (gather f n) k (gather-lt f n) i in
+    (l, sym (has-gather f n k l) ∙ in-has _ _ i)
+
+-- ---- the set of the numbers in a list
+pub list-in : (l : List ℕ) (k : ℕ) → List·Memᴰ k l → In k (setOf l)
+unfolding setOf
+list-in (x ∷ l) k (List·Memᴰ.List·Memᴰ·head e) = rw e (bit-with-same (setOf l) x)
+list-in (x ∷ l) k (List·Memᴰ.List·Memᴰ·tail m) = inside-member (setOf l) (with (setOf l) x) k (with-grows (setOf l) x) (list-in l k m)
+
+pub in-list : (l : List ℕ) (k : ℕ) → In k (setOf l) → List·Memᴰ k l
+unfolding setOf
+in-list [] k i = absurd (let z = bit-empty k in omega arith)
+in-list (x ∷ l) k i = elim (ℕ-discrete k x) [
+  | yes e ↦ List·Memᴰ.List·Memᴰ·head e
+  | no e ↦ List·Memᴰ.List·Memᴰ·tail (in-list l k (sym (bit-with-other (setOf l) x k e) ∙ i))
+]

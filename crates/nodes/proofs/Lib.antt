@@ -1,0 +1,4 @@
+-- The laws of sets, each shown once for every width.
+pub mod Bit
+pub mod Size
+pub mod Walk

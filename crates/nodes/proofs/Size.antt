@@ -1,0 +1,234 @@
+-- The members of a set as an ascending list, and its size: for every width. Assumes nothing.
+use mathlib.Core.Path.{_≡_, refl, sym, ap, ap₂, _∙_}
+use mathlib.Core.Bool.{Bool, true, false}
+use mathlib.Core.Logic.{_⊎_, inl, inr, ⊎-elim, _↔_}
+use mathlib.Core.List.{List, [], _∷_, _++_, append-assoc, append-nil, List·Memᴰ, List·Memᴰ·append-cases, List·Memᴰ·eq-of-singleton, Memᴰ·append-left, Memᴰ·append-right}
+use Prim.Native.Nat.{ℕ, zero, suc, _+_, _-_, _*_, _/_, _%_, _^_, _≤_, _<_, zero-le, min, max}
+use native.Mathlib.Nat.{le-refl, not-suc-le-zero, add-zero, add-suc, suc-add, mul-one, one-mul, mod-lt, eq-or-lt-of-le, le-of-suc-le-suc, mod-eq-of-lt}
+use native.Mathlib.Omega.{arith}
+use native.Mathlib.Numerals.{add-one}
+use native.Mathlib.Decide.{le-ind, ℕ-discrete}
+use lib.Dec.{eqb, lit<}
+use lib.Arith.{half-le, bin-ind, lt-one, digits-mod, digits-div}
+use lib.Pow.{pow-pos, split, shr-lt, mod-pow-add}
+use lib.Bits.{bitAnd, bitOr, block-half, block-odd, and-step, or-step, and-zero-l, or-zero-l}
+use lib.ListN.{length, length-append}
+use Rattle.lemmas.specs.Lists.{Ascending}
+use Rattle.lemmas.proofs.Lists.{ascending-snoc}
+use Rattle.nodes.specs.Sets.{bit, In, has, union, meet, with, single, Inside, only, membersFrom, members, size}
+use Rattle.nodes.proofs.Bit.{bit-zero, bit-suc, bit-le, bit-above, in-lt, has-bit, has-in, in-has, pow-gt, with-union, bit-meet, bit-single-other, empty-same}
+
+-- ---- the members from k on, however large the bound of the recursion
+more : (f k s : ℕ) → s ≤ f → membersFrom (suc f) k s ≡ membersFrom f k s
+unfolding membersFrom
+more zero k zero h = refl
+more zero k (suc s) h = absurd (not-suc-le-zero h)
+more (suc f) k zero h = refl
+more (suc f) k (suc s) h = ap (λ (l : List ℕ). only (eqb (suc s % 2) 1) k ++ l) (more f (suc k) (suc s / 2) (half-le h))
+
+enough : (f k s : ℕ) → s ≤ f → membersFrom f k s ≡ membersFrom s k s
+enough f k s h = le-ind (λ (m : ℕ). membersFrom m k s ≡ membersFrom s k s) refl (λ m l e. more m k s l ∙ e) f h
+
+unfoldable pub from : ℕ → ℕ → List ℕ
+unfolding membersFrom
+from k s = membersFrom s k s
+
+pub from-step : (k s : ℕ) → from k s ≡ only (eqb (s % 2) 1) k ++ from (suc k) (s / 2)
+unfolding from
+from-step k zero = refl
+from-step k (suc s) = ap (λ (l : List ℕ). only (eqb (suc s % 2) 1) k ++ l) (enough s (suc k) (suc s / 2) (half-le (le-refl (suc s))))
+
+pub from-none : (k : ℕ) → from k 0 ≡ []
+unfolding from
+from-none k = refl
+
+-- a number as a high part and a low part of n digits: the low part's members, then the high part's
+pub from-cat : (n k hi lo : ℕ) → lo < 2 ^ n → from k (hi * 2 ^ n + lo) ≡ from k lo ++ from (k + n) hi
+from-cat zero k hi lo h =
+    ap (from k) (ap₂ (λ (x y : ℕ). x + y) (mul-one hi) (lt-one h) ∙ add-zero hi)
+    ∙ ap (λ (x : ℕ). from x hi) (sym (add-zero k))
+    ∙ ap (λ (l : List ℕ). l ++ from (k + 0) hi) (sym (ap (from k) (lt-one h) ∙ from-none k))
+from-cat (suc n) k hi lo h =
+    from-step k (hi * 2 ^ suc n + lo)
+    ∙ ap₂ (λ (x y : ℕ). only (eqb x 1) k ++ from (suc k) y) (block-odd hi n lo) (block-half hi n lo)
+    ∙ ap (λ (l : List ℕ). only (eqb (lo % 2) 1) k ++ l) (from-cat n (suc k) hi (lo / 2) (shr-lt n 1 (rw add-one h)))
+    ∙ sym (append-assoc (only (eqb (lo % 2) 1) k) (from (suc k) (lo / 2)) (from (suc k + n) hi))
+    ∙ ap₂ (λ (l : List ℕ) (x : ℕ). l ++ from x hi) (sym (from-step k lo)) (suc-add k n ∙ sym (add-suc k n))
+
+pub members-from : (s : ℕ) → members s ≡ from 0 s
+unfolding members from
+members-from s = refl
+
+-- ---- the members below n are those of the rest by 2 ^ n; one place more
+from-digit : (d k : ℕ) → d ≤ 1 → from k d ≡ only (eqb d 1) k
+unfolding from
+from-digit zero k h = refl
+from-digit (suc zero) k h = refl
+from-digit (suc (suc d)) k h = absurd (omega arith)
+
+pub members-suc : (s k : ℕ) → members (s % 2 ^ (k + 1)) ≡ members (s % 2 ^ k) ++ only (has s k) k
+unfolding bit has
+members-suc s k =
+    members-from (s % 2 ^ (k + 1))
+    ∙ ap (from 0) (ap (λ (x : ℕ). s % 2 ^ x) (native.Mathlib.Nat.add-comm k 1) ∙ mod-pow-add s 1 k)
+    ∙ from-cat k 0 (s / 2 ^ k % 2) (s % 2 ^ k) (mod-lt s (pow-pos k))
+    ∙ ap₂ (λ (l m : List ℕ). l ++ m) (sym (members-from (s % 2 ^ k)))
+    (ap (λ (x : ℕ). from x (s / 2 ^ k % 2)) (native.Mathlib.Nat.zero-add k) ∙ from-digit (s / 2 ^ k % 2) k (bit-le s k))
+
+pub members-none : (s : ℕ) → members (s % 2 ^ 0) ≡ []
+members-none s = ap members (lt-one (mod-lt s (pow-pos 0))) ∙ members-from 0 ∙ from-none 0
+
+pub members-all : (w s : ℕ) → s < 2 ^ w → members (s % 2 ^ w) ≡ members s
+members-all w s h = ap members (mod-eq-of-lt h)
+
+-- ---- which they are, and in which order
+only-cases : (b : Bool) (k j : ℕ) → List·Memᴰ j (only b k) → (j ≡ k) × (b ≡ true)
+only-cases true k j m = (List·Memᴰ·eq-of-singleton m, refl)
+only-cases false k j m = absurd (elim m [ ])
+
+below-members : (s n j : ℕ) → List·Memᴰ j (members (s % 2 ^ n)) → (j < n) × In j s
+below-members s zero j m = absurd (none (rw (members-none s) at m))
+  where
+    none : List·Memᴰ j [] → ⊥
+    none p = elim p [ ]
+below-members s (suc n) j m =
+    let ih = below-members s n j in
+    ⊎-elim
+    (λ (p : List·Memᴰ j (members (s % 2 ^ n))). let q = ih p in (omega arith, q .1))
+    (λ (p : List·Memᴰ j (only (has s n) n)). let q = only-cases (has s n) n j p in (omega arith, ap (bit s) (q .0) ∙ has-in s n (q .1)))
+    (List·Memᴰ·append-cases (members (s % 2 ^ n)) (rw (← add-one n, members-suc s n) at m))
+
+members-below : (s n j : ℕ) → j < n → In j s → List·Memᴰ j (members (s % 2 ^ n))
+members-below s zero j h i = absurd (not-suc-le-zero h)
+members-below s (suc n) j h i =
+    let ih = members-below s n j in
+    rw (← add-one n, members-suc s n)
+    (⊎-elim
+    (λ (q : j ≡ n). Memᴰ·append-right (members (s % 2 ^ n)) (rw (in-has s n (ap (bit s) (sym q) ∙ i)) (List·Memᴰ.List·Memᴰ·head q)))
+    (λ (q : j < n). Memᴰ·append-left (only (has s n) n) (ih q i))
+    (eq-or-lt-of-le (le-of-suc-le-suc h)))
+
+below-ascending : (s n : ℕ) → Ascending (members (s % 2 ^ n))
+below-ascending s zero = rw (members-none s) tt
+below-ascending s (suc n) = rw (← add-one n, members-suc s n) (go (has s n) (below-ascending s n))
+  where
+    go : (b : Bool) → Ascending (members (s % 2 ^ n)) → Ascending (members (s % 2 ^ n) ++ only b n)
+    go true a = ascending-snoc (members (s % 2 ^ n)) n (λ b m. below-members s n b m .0) a
+    go false a = rw (append-nil (members (s % 2 ^ n))) a
+
+pub members-in : (s j : ℕ) → List·Memᴰ j (members s) ↔ In j s
+members-in s j = (
+  λ m. below-members s s j (rw (members-all s s (pow-gt s)) m) .1,
+  λ i. rw (members-all s s (pow-gt s)) at (members-below s s j (in-lt s s j (pow-gt s) i) i),
+)
+
+pub members-ascending : (s : ℕ) → Ascending (members s)
+members-ascending s = rw (members-all s s (pow-gt s)) at (below-ascending s s)
+
+-- ---- the size is the length of that list
+pub size-members : (s : ℕ) → size s ≡ length (members s)
+unfolding size members
+size-members s = refl
+
+only-length : (d : ℕ) (k : ℕ) → d ≤ 1 → length (only (eqb d 1) k) ≡ d
+only-length zero k h = refl
+only-length (suc zero) k h = refl
+only-length (suc (suc d)) k h = absurd (omega arith)
+
+from-length : (s j k : ℕ) → length (from j s) ≡ length (from k s)
+from-length = bin-ind (λ (s : ℕ). (j k : ℕ) → length (from j s) ≡ length (from k s)) (λ j k. ap length (from-none j) ∙ sym (ap length (from-none k))) step
+  where
+    step : (s : ℕ) → ((j k : ℕ) → length (from j (s / 2)) ≡ length (from k (s / 2))) → (j k : ℕ) → length (from j s) ≡ length (from k s)
+    step s ih j k =
+        ap length (from-step j s) ∙ length-append (only (eqb (s % 2) 1) j) (from (suc j) (s / 2))
+        ∙ ap₂ (λ (x y : ℕ). x + y) (only-length (s % 2) j (omega arith) ∙ sym (only-length (s % 2) k (omega arith))) (ih (suc j) (suc k))
+        ∙ sym (ap length (from-step k s) ∙ length-append (only (eqb (s % 2) 1) k) (from (suc k) (s / 2)))
+
+pub size-step : (s : ℕ) → size s ≡ s % 2 + size (s / 2)
+size-step s =
+    size-members s ∙ ap length (members-from s ∙ from-step 0 s) ∙ length-append (only (eqb (s % 2) 1) 0) (from 1 (s / 2))
+    ∙ ap₂ (λ (x y : ℕ). x + y) (only-length (s % 2) 0 (omega arith)) (from-length (s / 2) 1 0 ∙ sym (size-members (s / 2) ∙ ap length (members-from (s / 2))))
+
+pub size-empty : size 0 ≡ 0
+size-empty = size-members 0 ∙ ap length (members-from 0 ∙ from-none 0)
+
+-- one place more, as a walk counts it
+pub size-suc : (s k : ℕ) → size (s % 2 ^ (k + 1)) ≡ size (s % 2 ^ k) + bit s k
+size-suc s k =
+    size-members (s % 2 ^ (k + 1)) ∙ ap length (members-suc s k) ∙ length-append (members (s % 2 ^ k)) (only (has s k) k)
+    ∙ ap₂ (λ (x y : ℕ). x + y) (sym (size-members (s % 2 ^ k)))
+    (ap (λ (b : Bool). length (only b k)) (has-bit s k) ∙ only-length (bit s k) k (bit-le s k))
+
+pub size-none : (s : ℕ) → size (s % 2 ^ 0) ≡ 0
+size-none s = size-members (s % 2 ^ 0) ∙ ap length (members-none s)
+
+pub size-below : (s n : ℕ) → size (s % 2 ^ n) ≤ n
+size-below s zero = omega (arith, size-none s)
+size-below s (suc n) = rw (← add-one n) (omega (arith, size-suc s n, size-below s n, bit-le s n))
+
+pub size-le : (w s : ℕ) → s < 2 ^ w → size s ≤ w
+size-le w s h = rw (mod-eq-of-lt h) at (size-below s w)
+
+-- ---- more members, larger size; the size of a union
+pub size-mono : (a b : ℕ) → Inside a b → size a ≤ size b
+size-mono = bin-ind (λ (a : ℕ). (b : ℕ) → Inside a b → size a ≤ size b) (λ b h. omega (arith, size-empty)) step
+  where
+    step : (a : ℕ) → ((b : ℕ) → Inside (a / 2) b → size (a / 2) ≤ size b) → (b : ℕ) → Inside a b → size a ≤ size b
+    step a ih b h =
+        let r = ih (b / 2) (λ k. omega (arith, h (suc k), bit-suc a k, bit-suc b k)) in
+        omega (arith, size-step a, size-step b, h 0, bit-zero a, bit-zero b)
+
+size-digit : (q d : ℕ) → d < 2 → size (q * 2 + d) ≡ d + size q
+size-digit q d h = size-step (q * 2 + d) ∙ ap₂ (λ (x y : ℕ). x + size y) (digits-mod q h) (digits-div q h)
+
+union-zero : (b : ℕ) → union 0 b ≡ b
+unfolding union
+union-zero b = or-zero-l b
+
+meet-zero : (b : ℕ) → meet 0 b ≡ 0
+unfolding meet
+meet-zero b = and-zero-l b
+
+size-union-step : (a b : ℕ) → size (union a b) ≡ max (a % 2) (b % 2) + size (union (a / 2) (b / 2))
+unfolding union
+size-union-step a b = ap size (or-step a b) ∙ size-digit (bitOr (a / 2) (b / 2)) (max (a % 2) (b % 2)) (omega arith)
+
+size-meet-step : (a b : ℕ) → size (meet a b) ≡ min (a % 2) (b % 2) + size (meet (a / 2) (b / 2))
+unfolding meet
+size-meet-step a b = ap size (and-step a b) ∙ size-digit (bitAnd (a / 2) (b / 2)) (min (a % 2) (b % 2)) (omega arith)
+
+pub size-union-meet : (a b : ℕ) → size (union a b) + size (meet a b) ≡ size a + size b
+size-union-meet = bin-ind (λ (a : ℕ). (b : ℕ) → size (union a b) + size (meet a b) ≡ size a + size b) none step
+  where
+    none : (b : ℕ) → size (union 0 b) + size (meet 0 b) ≡ size 0 + size b
+    none b = omega (arith, ap size (union-zero b), ap size (meet-zero b))
+
+    step : (a : ℕ) → ((b : ℕ) → size (union (a / 2) b) + size (meet (a / 2) b) ≡ size (a / 2) + size b) → (b : ℕ)
+        → size (union a b) + size (meet a b) ≡ size a + size b
+    step a ih b = omega (arith, size-union-step a b, size-meet-step a b, size-step a, size-step b, ih (b / 2))
+
+pub size-disjoint : (a b : ℕ) → meet a b ≡ 0 → size (union a b) ≡ size a + size b
+size-disjoint a b e = omega (arith, size-union-meet a b, ap size e, size-empty)
+
+-- ---- one member
+only-self : (s k : ℕ) → bit s k ≡ 0 → meet s (single k) ≡ 0
+only-self s k z =
+    empty-same (meet s (single k))
+    (λ j. elim (ℕ-discrete j k) [
+      | yes e ↦ rw e (omega (arith, bit-meet s (single k) k))
+      | no e ↦ omega (arith, bit-meet s (single k) j, bit-single-other k j e)
+    ])
+
+pub size-single : (k : ℕ) → size (single k) ≡ 1
+unfolding single
+size-single k =
+    size-members (2 ^ k)
+    ∙ ap length (members-from (2 ^ k) ∙ ap (from 0) (sym (add-zero (1 * 2 ^ k) ∙ one-mul (2 ^ k))) ∙ from-cat k 0 1 0 (pow-pos k))
+    ∙ length-append (from 0 0) (from (0 + k) 1) ∙ ap₂ (λ (x y : ℕ). x + y) (ap length (from-none 0)) (ap length (from-digit 1 (0 + k) (le-refl 1)))
+
+pub size-with : (s k : ℕ) → bit s k ≡ 0 → size (with s k) ≡ size s + 1
+size-with s k z = ap size (with-union s k) ∙ size-disjoint s (single k) (only-self s k z) ∙ ap (λ (x : ℕ). size s + x) (size-single k)
+
+-- ---- a set is empty exactly if its size is 0
+pub size-zero : (s : ℕ) → size s ≡ 0 → s ≡ 0
+size-zero = bin-ind (λ (s : ℕ). size s ≡ 0 → s ≡ 0) (λ e. refl) (λ s ih e. let q = ih (omega (arith, size-step s)) in omega (arith, size-step s))
