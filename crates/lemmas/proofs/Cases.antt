@@ -1,6 +1,6 @@
--- A result that a branch or a match picked, against a definition by `cond` or by cases. Assumes nothing.
+-- A result that a branch or a match picked, against a definition by `cond`, `||`, `&&` or by cases. Assumes nothing.
 use mathlib.Core.Path.{_≡_, sym, _∙_, ap}
-use mathlib.Core.Bool.{Bool, true, false, cond}
+use mathlib.Core.Bool.{Bool, true, false, cond, _&&_, _||_}
 
 module _ {A : Type 0} where
   -- the branch whose test was true
@@ -10,6 +10,19 @@ module _ {A : Type 0} where
   -- the branch whose test was false
   pub at-false : {b : Bool} {y r : A} (x : A) → b ≡ false → r ≡ y → r ≡ cond b x y
   at-false {y = y} x e h = h ∙ ap (λ (t : Bool). cond t x y) (sym e)
+
+-- a chain of tests of which one must be true, and of which all must be
+pub or-here : {x : Bool} (y : Bool) → x ≡ true → true ≡ (x || y)
+or-here y e = ap (λ (t : Bool). t || y) (sym e)
+
+pub or-later : {x y r : Bool} → x ≡ false → r ≡ y → r ≡ (x || y)
+or-later {y = y} e h = h ∙ ap (λ (t : Bool). t || y) (sym e)
+
+pub and-not : {x : Bool} (y : Bool) → x ≡ false → false ≡ (x && y)
+and-not y e = ap (λ (t : Bool). t && y) (sym e)
+
+pub and-also : {x y r : Bool} → x ≡ true → r ≡ y → r ≡ (x && y)
+and-also {y = y} e h = h ∙ ap (λ (t : Bool). t && y) (sym e)
 
 -- what a callee said of a flag, with the flag's value
 pub flag : {p q v : Bool} → p ≡ q → p ≡ v → q ≡ v

@@ -1,6 +1,12 @@
--- Lists of numbers: what it means to ascend. Assumes nothing.
+-- Lists of numbers: a test of some member, and what it means to ascend. Assumes nothing.
+use mathlib.Core.Bool.{Bool, true, false, _||_}
 use mathlib.Core.List.{List, [], _∷_, List·Memᴰ}
 use Prim.Native.Nat.{ℕ, _<_}
+
+-- some number of the list meets the test
+abbrev pub anyOf : (ℕ → Bool) → List ℕ → Bool
+anyOf p [] = false
+anyOf p (a ∷ l) = p a || anyOf p l
 
 -- each number is below all that follow it, so none stands twice
 abbrev pub Ascending : List ℕ → Type 0

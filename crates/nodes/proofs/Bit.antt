@@ -264,6 +264,19 @@ in-gather f n k i =
     let l = in-lt n (gather f n) k (gather-lt f n) i in
     (l, sym (has-gather f n k l) ∙ in-has _ _ i)
 
+-- one node more, as a loop gathers them
+pub gather-none : (f : ℕ → Bool) → gather f 0 ≡ 0
+unfolding gather
+gather-none f = refl
+
+pub gather-yes : (f : ℕ → Bool) (s k : ℕ) → s ≡ gather f k → f k ≡ true → with s k ≡ gather f (k + 1)
+unfolding gather
+gather-yes f s k e t = rw (add-one k, ← e) (sym (ap (λ (b : Bool). keep b k s) t))
+
+pub gather-no : (f : ℕ → Bool) (s k : ℕ) → s ≡ gather f k → f k ≡ false → s ≡ gather f (k + 1)
+unfolding gather
+gather-no f s k e t = rw (add-one k, ← e) (sym (ap (λ (b : Bool). keep b k s) t))
+
 -- ---- the set of the numbers in a list
 pub list-in : (l : List ℕ) (k : ℕ) → List·Memᴰ k l → In k (setOf l)
 unfolding setOf

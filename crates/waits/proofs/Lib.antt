@@ -1,0 +1,4 @@
+-- The laws of the graph of waits.
+pub mod Cases
+pub mod Table
+pub mod Left

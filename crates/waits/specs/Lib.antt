@@ -1,0 +1,5 @@
+-- What a graph of waits is, what its rows mean, when they are refused, and what deadlocked means.
+pub mod Waits
+pub mod Deadlocked
+pub mod Rows
+pub mod Numbers
