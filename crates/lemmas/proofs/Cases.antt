@@ -11,6 +11,13 @@ module _ {A : Type 0} where
   pub at-false : {b : Bool} {y r : A} (x : A) → b ≡ false → r ≡ y → r ≡ cond b x y
   at-false {y = y} x e h = h ∙ ap (λ (t : Bool). cond t x y) (sym e)
 
+  -- and back: what a choice says once its test is known
+  pub of-true : {b : Bool} {x r : A} (y : A) → b ≡ true → cond b x y ≡ r → x ≡ r
+  of-true {x = x} y e h = ap (λ (t : Bool). cond t x y) (sym e) ∙ h
+
+  pub of-false : {b : Bool} {y r : A} (x : A) → b ≡ false → cond b x y ≡ r → y ≡ r
+  of-false {y = y} x e h = ap (λ (t : Bool). cond t x y) (sym e) ∙ h
+
 -- a chain of tests of which one must be true, and of which all must be
 pub or-here : {x : Bool} (y : Bool) → x ≡ true → true ≡ (x || y)
 or-here y e = ap (λ (t : Bool). t || y) (sym e)
@@ -23,6 +30,9 @@ and-not y e = ap (λ (t : Bool). t && y) (sym e)
 
 pub and-also : {x y r : Bool} → x ≡ true → r ≡ y → r ≡ (x && y)
 and-also {y = y} e h = h ∙ ap (λ (t : Bool). t && y) (sym e)
+
+pub and-rest : {x : Bool} (y : Bool) {r : Bool} → x ≡ true → (x && y) ≡ r → y ≡ r
+and-rest y e h = ap (λ (t : Bool). t && y) (sym e) ∙ h
 
 -- what a callee said of a flag, with the flag's value
 pub flag : {p q v : Bool} → p ≡ q → p ≡ v → q ≡ v

@@ -1,6 +1,6 @@
 -- Boolean tests: telling true from false, and what `&&` and `||` say of their parts. Assumes nothing.
 use mathlib.Core.Path.{_≡_, refl, sym, _∙_}
-use mathlib.Core.Bool.{Bool, true, false, not, _&&_, _||_, true≢false, false≢true}
+use mathlib.Core.Bool.{Bool, true, false, cond, _&&_, _||_, true≢false, false≢true}
 use mathlib.Core.Logic.{_⊎_, inl, inr}
 
 pub not-both : {b : Bool} → b ≡ true → b ≡ false → ⊥
@@ -53,3 +53,8 @@ or-intro-left false y e = absurd (false≢true e)
 pub or-intro-right : (x y : Bool) → y ≡ true → (x || y) ≡ true
 or-intro-right true y e = refl
 or-intro-right false y e = e
+
+-- ---- a choice
+pub cond-mono : (b : Bool) {x y x′ y′ : Bool} → (x ≡ true → x′ ≡ true) → (y ≡ true → y′ ≡ true) → cond b x y ≡ true → cond b x′ y′ ≡ true
+cond-mono true f g e = f e
+cond-mono false f g e = g e

@@ -1,8 +1,9 @@
 -- Membership after each operation, and when two sets are equal: for every width. Assumes nothing.
 use mathlib.Core.Path.{_≡_, refl, sym, ap, ap₂, _∙_}
 use mathlib.Core.Bool.{Bool, true, false}
-use mathlib.Core.Logic.{_⊎_, inl, inr, ⊎-elim}
+use mathlib.Core.Logic.{_⊎_, inl, inr, ⊎-elim, _↔_}
 use mathlib.Core.List.{List, [], _∷_, List·Memᴰ}
+use mathlib.Core.List.List·Memᴰ.{List·Memᴰ·head as here, List·Memᴰ·tail as there}
 use Prim.Native.Nat.{ℕ, zero, suc, _+_, _-_, _*_, _/_, _%_, _^_, _≤_, _<_, zero-le, suc-le-suc, min, max}
 use native.Mathlib.Nat.{mod-lt, zero-lt-suc, div-one, le-of-suc-le-suc, not-suc-le-zero, div-add-mod', pow-suc, one-mul, div-eq-of-lt, le-dest, lt-of-lt-of-le, lt-suc-self, eq-or-lt-of-le, le-refl, le-trans, mod-eq-of-lt, mul-mod-left}
 use native.Mathlib.Omega.{arith}
@@ -56,11 +57,11 @@ bit-mod w s k h =
 
 -- ---- the test of membership
 pub has-in : (s k : ℕ) → has s k ≡ true → In k s
-unfolding has bit
+unfolding has
 has-in s k e = eqb-true _ _ e
 
 pub in-has : (s k : ℕ) → In k s → has s k ≡ true
-unfolding has bit
+unfolding has
 in-has s k e = eq-eqb _ _ e
 
 pub has-out : (s k : ℕ) → has s k ≡ false → bit s k ≡ 0
@@ -70,7 +71,7 @@ pub out-has : (s k : ℕ) → bit s k ≡ 0 → has s k ≡ false
 out-has s k z = not-true-false _ (λ e. let i = has-in s k e in omega arith)
 
 pub has-bit : (s k : ℕ) → has s k ≡ eqb (bit s k) 1
-unfolding has bit
+unfolding has
 has-bit s k = refl
 
 -- ---- two sets with the same members are equal
@@ -133,9 +134,28 @@ bit-xor a b k =
     ∙ digits-mod (bitXor (a / 2 ^ k / 2) (b / 2 ^ k / 2)) (differ-lt (a / 2 ^ k % 2) (b / 2 ^ k % 2) (omega arith) (omega arith))
 
 pub bit-minus : (a b k : ℕ) → bit (minus a b) k ≡ bit a k - bit b k
-unfolding minus meet
+unfolding minus
 bit-minus a b k =
     bit-xor a (meet a b) k ∙ ap (differ (bit a k)) (bit-meet a b k) ∙ differ-sub (bit a k) (bit b k) (bit-le a k) (bit-le b k)
+
+-- the same in words
+pub in-union : (a b k : ℕ) → In k (union a b) ↔ (In k a ⊎ In k b)
+in-union a b k = (
+  λ i. ⊎-elim (λ (e : bit a k ≡ 1). inl e) (λ (z : bit a k ≡ 0). inr (omega (arith, bit-union a b k))) (in-or-out a k),
+  λ s. let l = bit-le a k in let m = bit-le b k in let u = bit-union a b k in ⊎-elim (λ (e : bit a k ≡ 1). omega arith) (λ (e : bit b k ≡ 1). omega arith) s,
+)
+
+pub in-meet : (a b k : ℕ) → In k (meet a b) ↔ (In k a × In k b)
+in-meet a b k = (
+  λ i. let l = bit-le a k in let m = bit-le b k in let u = bit-meet a b k in (omega arith, omega arith),
+  λ p. omega (arith, bit-meet a b k),
+)
+
+pub in-minus : (a b k : ℕ) → In k (minus a b) ↔ (In k a × (In k b → ⊥))
+in-minus a b k = (
+  λ i. let l = bit-le a k in let u = bit-minus a b k in (omega arith, λ j. omega arith),
+  λ p. ⊎-elim (λ (e : bit b k ≡ 1). absurd (p .1 e)) (λ (z : bit b k ≡ 0). omega (arith, bit-minus a b k)) (in-or-out b k),
+)
 
 pub meet-lt : (w a b : ℕ) → a < 2 ^ w → meet a b < 2 ^ w
 unfolding meet
@@ -166,7 +186,7 @@ pub bit-single-other : (k j : ℕ) → (j ≡ k → ⊥) → bit (single k) j �
 bit-single-other k j ne = elim (decLt j k) [ yes h ↦ bit-single-below k j h | no h ↦ bit-single-above k j (omega arith) ]
 
 pub with-union : (s k : ℕ) → with s k ≡ union s (single k)
-unfolding with union single
+unfolding with
 with-union s k = refl
 
 pub bit-with-same : (s k : ℕ) → bit (with s k) k ≡ 1
@@ -175,9 +195,18 @@ bit-with-same s k = rw (with-union s k) (omega (arith, bit-union s (single k) k,
 pub bit-with-other : (s k j : ℕ) → (j ≡ k → ⊥) → bit (with s k) j ≡ bit s j
 bit-with-other s k j ne = rw (with-union s k) (omega (arith, bit-union s (single k) j, bit-single-other k j ne))
 
+pub in-with : (s k j : ℕ) → In j (with s k) ↔ (In j s ⊎ (j ≡ k))
+in-with s k j = (
+  λ i. elim (ℕ-discrete j k) [ yes e ↦ inr e | no e ↦ inl (sym (bit-with-other s k j e) ∙ i) ],
+  λ t. ⊎-elim (λ (i : In j s). inside-with i) (λ (e : j ≡ k). rw e (bit-with-same s k)) t,
+)
+  where
+    inside-with : In j s → In j (with s k)
+    inside-with i = rw (with-union s k) (in-union s (single k) j .1 (inl i))
+
 pub with-lt : (w s k : ℕ) → s < 2 ^ w → k < w → with s k < 2 ^ w
-unfolding with
-with-lt w s k hs hk = or-lt w s (2 ^ k) hs (pow-lt hk)
+unfolding with single
+with-lt w s k hs hk = union-lt w s (single k) hs (pow-lt hk)
 
 pub with-grows : (s k : ℕ) → Inside s (with s k)
 with-grows s k j = rw (with-union s k) (omega (arith, bit-union s (single k) j))
@@ -210,16 +239,16 @@ bit-below (suc n) k h =
     ∙ ap (λ (x : ℕ). bit x k) (ap (λ (x : ℕ). (x + (2 ^ n - 1)) % 2 ^ n) (sym (one-mul (2 ^ n))) ∙ lib.Pow.low 1 n (ones-lt n)) ∙ ih q)
     (eq-or-lt-of-le (le-of-suc-le-suc h))
 
-pub below-in : (n k : ℕ) → In k (below n) → k < n
-below-in n k i = in-lt n (below n) k (below-lt n) i
+pub in-below : (n k : ℕ) → In k (below n) ↔ (k < n)
+in-below n k = (λ i. in-lt n (below n) k (below-lt n) i, λ h. bit-below n k h)
 
 -- ---- inside, as membership
 pub inside-of : (a b : ℕ) → inside a b ≡ true → Inside a b
-unfolding inside meet
+unfolding inside
 inside-of a b e k = let q : meet a b ≡ a = eqb-true _ _ e in omega (arith, bit-meet a b k, ap (λ (x : ℕ). bit x k) q)
 
 pub of-inside : (a b : ℕ) → Inside a b → inside a b ≡ true
-unfolding inside meet
+unfolding inside
 of-inside a b h = eq-eqb _ _ (same (meet a b) a (λ k. omega (arith, bit-meet a b k, h k)))
 
 pub inside-in : (a b : ℕ) → ((k : ℕ) → In k a → In k b) → Inside a b
@@ -230,6 +259,9 @@ inside-member a b k h i = omega (arith, h k, bit-le b k)
 
 pub inside-trans : (a b c : ℕ) → Inside a b → Inside b c → Inside a c
 inside-trans a b c f g k = le-trans (f k) (g k)
+
+pub inside-empty : (a : ℕ) → Inside a 0 → a ≡ 0
+inside-empty a h = empty-same a (λ k. omega (arith, h k, bit-empty k))
 
 pub not-inside : (a b k : ℕ) → bit b k < bit a k → inside a b ≡ false
 not-inside a b k h = not-true-false _ (λ e. let q = inside-of a b e k in omega arith)
@@ -280,13 +312,13 @@ gather-no f s k e t = rw (add-one k, ← e) (sym (ap (λ (b : Bool). keep b k s)
 -- ---- the set of the numbers in a list
 pub list-in : (l : List ℕ) (k : ℕ) → List·Memᴰ k l → In k (setOf l)
 unfolding setOf
-list-in (x ∷ l) k (List·Memᴰ.List·Memᴰ·head e) = rw e (bit-with-same (setOf l) x)
-list-in (x ∷ l) k (List·Memᴰ.List·Memᴰ·tail m) = inside-member (setOf l) (with (setOf l) x) k (with-grows (setOf l) x) (list-in l k m)
+list-in (x ∷ l) k (here e) = rw e (bit-with-same (setOf l) x)
+list-in (x ∷ l) k (there m) = inside-member (setOf l) (with (setOf l) x) k (with-grows (setOf l) x) (list-in l k m)
 
 pub in-list : (l : List ℕ) (k : ℕ) → In k (setOf l) → List·Memᴰ k l
 unfolding setOf
 in-list [] k i = absurd (let z = bit-empty k in omega arith)
 in-list (x ∷ l) k i = elim (ℕ-discrete k x) [
-  | yes e ↦ List·Memᴰ.List·Memᴰ·head e
-  | no e ↦ List·Memᴰ.List·Memᴰ·tail (in-list l k (sym (bit-with-other (setOf l) x k e) ∙ i))
+  | yes e ↦ here e
+  | no e ↦ there (in-list l k (sym (bit-with-other (setOf l) x k e) ∙ i))
 ]

@@ -3,6 +3,7 @@ use mathlib.Core.Path.{_≡_, refl, sym, ap, ap₂, _∙_}
 use mathlib.Core.Bool.{Bool, true, false}
 use mathlib.Core.Logic.{_⊎_, inl, inr, ⊎-elim, _↔_}
 use mathlib.Core.List.{List, [], _∷_, _++_, append-assoc, append-nil, List·Memᴰ, List·Memᴰ·append-cases, List·Memᴰ·eq-of-singleton, Memᴰ·append-left, Memᴰ·append-right}
+use mathlib.Core.List.List·Memᴰ.{List·Memᴰ·head as here, List·Memᴰ·tail as there}
 use Prim.Native.Nat.{ℕ, zero, suc, _+_, _-_, _*_, _/_, _%_, _^_, _≤_, _<_, zero-le, min, max}
 use native.Mathlib.Nat.{le-refl, not-suc-le-zero, add-zero, add-suc, suc-add, mul-one, one-mul, mod-lt, eq-or-lt-of-le, le-of-suc-le-suc, mod-eq-of-lt}
 use native.Mathlib.Omega.{arith}
@@ -104,7 +105,7 @@ members-below s (suc n) j h i =
     let ih = members-below s n j in
     rw (← add-one n, members-suc s n)
     (⊎-elim
-    (λ (q : j ≡ n). Memᴰ·append-right (members (s % 2 ^ n)) (rw (in-has s n (ap (bit s) (sym q) ∙ i)) (List·Memᴰ.List·Memᴰ·head q)))
+    (λ (q : j ≡ n). Memᴰ·append-right (members (s % 2 ^ n)) (rw (in-has s n (ap (bit s) (sym q) ∙ i)) (here q)))
     (λ (q : j < n). Memᴰ·append-left (only (has s n) n) (ih q i))
     (eq-or-lt-of-le (le-of-suc-le-suc h)))
 

@@ -18,8 +18,7 @@ In k s = bit s k ≡ 1
 
 -- the same as a test
 unfoldable pub has : ℕ → ℕ → Bool
-unfolding bit
-has s k = eqb (s / 2 ^ k % 2) 1
+has s k = eqb (bit s k) 1
 
 -- the members of either; of both; of a and not of b
 unfoldable pub union : ℕ → ℕ → ℕ
@@ -29,14 +28,14 @@ unfoldable pub meet : ℕ → ℕ → ℕ
 meet a b = bitAnd a b
 
 unfoldable pub minus : ℕ → ℕ → ℕ
-minus a b = bitXor a (bitAnd a b)
+minus a b = bitXor a (meet a b)
 
 -- the set of k alone; s with k
 unfoldable pub single : ℕ → ℕ
 single k = 2 ^ k
 
 unfoldable pub with : ℕ → ℕ → ℕ
-with s k = bitOr s (2 ^ k)
+with s k = union s (single k)
 
 -- all nodes below n
 unfoldable pub below : ℕ → ℕ
@@ -44,7 +43,7 @@ below n = 2 ^ n - 1
 
 -- each member of a is in b: as a test, and as a statement
 unfoldable pub inside : ℕ → ℕ → Bool
-inside a b = eqb (bitAnd a b) a
+inside a b = eqb (meet a b) a
 
 abbrev pub Inside : ℕ → ℕ → Type 0
 Inside a b = (k : ℕ) → bit a k ≤ bit b k
@@ -63,28 +62,23 @@ membersFrom (suc f) k (suc s) = only (eqb (suc s % 2) 1) k ++ membersFrom f (suc
 
 -- the members of s, ascending
 unfoldable pub members : ℕ → List ℕ
-unfolding membersFrom
 members s = membersFrom s 0 s
 
 -- how many members s has
 unfoldable pub size : ℕ → ℕ
-unfolding members
-size s = length (membersFrom s 0 s)
+size s = length (members s)
 
 -- s with k, if the test says so
 abbrev pub keep : Bool → ℕ → ℕ → ℕ
-unfolding with
 keep true k s = with s k
 keep false k s = s
 
 -- the set of the nodes below n of which f is true
 unfoldable pub gather : (ℕ → Bool) → ℕ → ℕ
-unfolding with
 gather f zero = 0
 gather f (suc n) = keep (f n) n (gather f n)
 
 -- the set of the numbers in a list
 unfoldable pub setOf : List ℕ → ℕ
-unfolding with
 setOf [] = 0
 setOf (k ∷ l) = with (setOf l) k

@@ -2,3 +2,5 @@
 pub mod Cases
 pub mod Table
 pub mod Left
+pub mod Condition
+pub mod Lawful

@@ -1,13 +1,20 @@
--- The table's order: the answer is the first line that says so, and accepted exactly if none does. Assumes nothing.
+-- The table's order: the check gives a refusal exactly when its line says so and no earlier one does, and accepts exactly
+-- if no line says so. Assumes nothing.
 use mathlib.Core.Path.{_≡_, refl, sym, ap, _∙_}
 use mathlib.Core.Bool.{Bool, true, false, cond}
-use mathlib.Core.Logic.{_↔_}
-use mathlib.Core.List.{List, [], _∷_, _++_, List·Memᴰ}
-use Prim.Native.Nat.{ℕ}
+use mathlib.Core.Logic.{_⊎_, inl, inr, ⊎-elim, _↔_}
+use mathlib.Core.List.{List, [], _∷_, _++_, List·Memᴰ, Memᴰ·append-left, Memᴰ·append-right}
+use mathlib.Core.List.List·Memᴰ.{List·Memᴰ·head as here, List·Memᴰ·tail as there}
+use Prim.Native.Nat.{ℕ, zero, suc, _+_, _≤_, _<_}
+use native.Mathlib.Nat.{eq-or-lt-of-le}
+use native.Mathlib.Omega.{arith}
+use lib.ListN.{length}
+use Rattle.waits.specs.declared.rows.Row.{Row}
 use Rattle.waits.specs.declared.numbers.Refusal.{Refusal}
 use Rattle.waits.specs.declared.numbers.Checked.{Checked}
 use Rattle.waits.specs.declared.numbers.Checked.the-variants.{Accepted, Refused}
-use Rattle.waits.specs.Numbers.{Line, firstSaid, graphLines, checkOf}
+use Rattle.waits.specs.Rows.{rowAt}
+use Rattle.waits.specs.Numbers.{Line, line, wrongCount, strangeKind, strangeMember, waitsOnItself, wrongThreshold, extraSet, badSets, manyEdges, rowLines, rowsLines, graphLines, firstSaid, checkOf, Silent, Gives}
 
 -- ---- one list of lines after another
 abbrev pub orElse : Checked → Checked → Checked
@@ -23,16 +30,105 @@ said-append (l ∷ ls) ms = go (l .says) (said-append ls ms)
     go true ih = refl
     go false ih = ih
 
--- ---- none says so
-abbrev pub Silent : List Line → Type 0
-Silent ls = (l : Line) → List·Memᴰ l ls → l .says ≡ false
+-- ---- accepted exactly if no line says so
+refused-not-accepted : {r : Refusal} → Refused r ≡ Accepted → ⊥
+refused-not-accepted e = let z : _≡_ {A = ℕ} 0 1 = cc e in omega arith
 
--- some line gives r, it says so, and no earlier one does
-pub record Gives (ls : List Line) (r : Refusal) : Type 0 where
-  pub earlier : List Line
-  pub this : Line
-  pub rest : List Line
-  pub order : ls ≡ earlier ++ this ∷ rest
-  pub gives-it : this .gives ≡ r
-  pub says-so : this .says ≡ true
-  pub silent : Silent earlier
+pub silent-accepted : (ls : List Line) → Silent ls → firstSaid ls ≡ Accepted
+silent-accepted [] h = refl
+silent-accepted (l ∷ ls) h =
+    ap (λ (b : Bool). cond b (Refused (l .gives)) (firstSaid ls)) (h l (here refl))
+    ∙ silent-accepted ls (λ m i. h m (there i))
+
+pub accepted-silent : (ls : List Line) → firstSaid ls ≡ Accepted → Silent ls
+accepted-silent [] e m i = elim i [ ]
+accepted-silent (l ∷ ls) e m i = go (l .says) refl e (accepted-silent ls) i
+  where
+    go : (b : Bool) → l .says ≡ b → cond b (Refused (l .gives)) (firstSaid ls) ≡ Accepted → (firstSaid ls ≡ Accepted → Silent ls) → List·Memᴰ m (l ∷ ls) → m .says ≡ false
+    go true q e ih i = absurd (refused-not-accepted e)
+    go false q e ih (here p) = ap (λ (x : Line). x .says) p ∙ q
+    go false q e ih (there i) = ih e m i
+
+pub check-accepted : (n : ℕ) (rows : List ℕ) → (checkOf n rows ≡ Accepted) ↔ Silent (graphLines n rows)
+unfolding checkOf
+check-accepted n rows = (accepted-silent (graphLines n rows), silent-accepted (graphLines n rows))
+
+-- ---- refused exactly with the first line that says so
+silent-cons : (l : Line) (ls : List Line) → l .says ≡ false → Silent ls → Silent (l ∷ ls)
+silent-cons l ls e h m (here p) = ap (λ (x : Line). x .says) p ∙ e
+silent-cons l ls e h m (there i) = h m i
+
+said-gives : (ls : List Line) (r : Refusal) → firstSaid ls ≡ Refused r → Gives ls r
+said-gives [] r e = absurd (refused-not-accepted (sym e))
+said-gives (l ∷ ls) r e = go (l .says) refl e (said-gives ls r)
+  where
+    go : (b : Bool) → l .says ≡ b → cond b (Refused (l .gives)) (firstSaid ls) ≡ Refused r → (firstSaid ls ≡ Refused r → Gives ls r) → Gives (l ∷ ls) r
+    go true q e ih = record { earlier = []; this = l; rest = ls; order = refl; refusal = cc e; speaks = q; silent = λ m i. elim i [ ] }
+    go false q e ih =
+        let g = ih e in
+        record {
+          earlier = l ∷ g .earlier;
+          this = g .this;
+          rest = g .rest;
+          order = ap (λ (x : List Line). l ∷ x) (g .order);
+          refusal = g .refusal;
+          speaks = g .speaks;
+          silent = silent-cons l (g .earlier) q (g .silent);
+        }
+
+gives-said : (ls : List Line) (r : Refusal) → Gives ls r → firstSaid ls ≡ Refused r
+gives-said ls r g =
+    ap firstSaid (g .order) ∙ said-append (g .earlier) (g .this ∷ g .rest)
+    ∙ ap (λ (x : Checked). orElse x (firstSaid (g .this ∷ g .rest))) (silent-accepted (g .earlier) (g .silent))
+    ∙ ap (λ (b : Bool). cond b (Refused (g .this .gives)) (firstSaid (g .rest))) (g .speaks)
+    ∙ ap Refused (g .refusal)
+
+pub check-refused : (n : ℕ) (rows : List ℕ) (r : Refusal) → (checkOf n rows ≡ Refused r) ↔ Gives (graphLines n rows) r
+unfolding checkOf
+check-refused n rows r = (said-gives (graphLines n rows) r, gives-said (graphLines n rows) r)
+
+-- ---- a row that gets no number
+pub record Fine (n k : ℕ) (r : Row) : Type 0 where
+  pub kind : strangeKind r ≡ false
+  pub member : strangeMember n r ≡ false
+  pub itself : waitsOnItself k r ≡ false
+  pub threshold : wrongThreshold r ≡ false
+  pub extra : extraSet r ≡ false
+  pub sets : badSets r ≡ false
+
+pub fine : (n k : ℕ) (r : Row) → Silent (rowLines n k r) → Fine n k r
+fine n k r h = record {
+  kind = h (line 2 k (strangeKind r)) (here refl);
+  member = h (line 3 k (strangeMember n r)) (there (here refl));
+  itself = h (line 4 k (waitsOnItself k r)) (there (there (here refl)));
+  threshold = h (line 5 k (wrongThreshold r)) (there (there (there (here refl))));
+  extra = h (line 6 k (extraSet r)) (there (there (there (there (here refl)))));
+  sets = h (line 7 k (badSets r)) (there (there (there (there (there (here refl))))));
+}
+
+-- ---- what an accepted graph's lines say
+row-of : (n : ℕ) (rows : List ℕ) (m j k : ℕ) (l : Line) → j ≤ k → k < j + m → List·Memᴰ l (rowLines n k (rowAt rows k)) → List·Memᴰ l (rowsLines n rows j m)
+row-of n rows zero j k l a b i = absurd (omega arith)
+row-of n rows (suc m) j k l a b i =
+    let ih = row-of n rows m (suc j) k l in
+    ⊎-elim
+    (λ (q : j ≡ k). Memᴰ·append-left {s = rowLines n j (rowAt rows j)} (rowsLines n rows (suc j) m) (rw q i))
+    (λ (q : j < k). Memᴰ·append-right (rowLines n j (rowAt rows j)) (ih q (omega arith) i))
+    (eq-or-lt-of-le a)
+
+module _ (n : ℕ) (rows : List ℕ) (ok : checkOf n rows ≡ Accepted) where
+  pub accepted-count : wrongCount n (length rows) ≡ false
+  accepted-count = check-accepted n rows .0 ok (line 1 0 (wrongCount n (length rows))) (here refl)
+
+  pub accepted-edges : manyEdges n rows ≡ false
+  accepted-edges =
+      check-accepted n rows .0 ok (line 8 0 (manyEdges n rows))
+      (there (Memᴰ·append-right (rowsLines n rows 0 n) (here refl)))
+
+  accepted-lines : (k : ℕ) → k < n → Silent (rowLines n k (rowAt rows k))
+  accepted-lines k h l i =
+      check-accepted n rows .0 ok l
+      (there (Memᴰ·append-left (line 8 0 (manyEdges n rows) ∷ []) (row-of n rows n 0 k l (omega arith) (omega arith) i)))
+
+  pub accepted-row : (k : ℕ) → k < n → Fine n k (rowAt rows k)
+  accepted-row k h = fine n k (rowAt rows k) (accepted-lines k h)

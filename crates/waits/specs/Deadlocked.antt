@@ -24,7 +24,6 @@ outside w l = minus (below (w .nodes)) (setOf l)
 
 -- A list passes for node i exactly if i is in it and no member's condition holds when every node outside the list grants.
 unfoldable pub passes : Waits → ℕ → List ℕ → Bool
-unfolding outside
 passes w i l = has (setOf l) i && not (anyOf (λ j. w .holds j (outside w l)) l)
 
 -- a path of one or more edges

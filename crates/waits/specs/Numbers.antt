@@ -1,7 +1,8 @@
 -- When rows are refused: the numbers 1 to 8, each with the line that the paper's table has for it, and their order.
 -- Assumes nothing.
+use mathlib.Core.Path.{_≡_}
 use mathlib.Core.Bool.{Bool, true, false, cond, not, _&&_, _||_}
-use mathlib.Core.List.{List, [], _∷_, _++_}
+use mathlib.Core.List.{List, [], _∷_, _++_, List·Memᴰ}
 use Prim.Native.Nat.{ℕ, zero, suc, _*_}
 use lib.Dec.{leb, ltb, eqb}
 use lib.ListN.{length}
@@ -101,3 +102,17 @@ checkRowOf n k r = firstSaid (rowLines n k r)
 
 unfoldable pub checkOf : ℕ → List ℕ → Checked
 checkOf n rows = firstSaid (graphLines n rows)
+
+-- no line says so
+abbrev pub Silent : List Line → Type 0
+Silent ls = (l : Line) → List·Memᴰ l ls → l .says ≡ false
+
+-- some line gives r: it says so, and no earlier one does
+pub record Gives (ls : List Line) (r : Refusal) : Type 0 where
+  pub earlier : List Line
+  pub this : Line
+  pub rest : List Line
+  pub order : ls ≡ earlier ++ this ∷ rest
+  pub refusal : this .gives ≡ r
+  pub speaks : this .says ≡ true
+  pub silent : Silent earlier

@@ -34,7 +34,6 @@ unfoldable pub laterOf : Row → ℕ
 laterOf r = union (num (r .second)) (union (num (r .third)) (num (r .fourth)))
 
 unfoldable pub outOf : Row → ℕ
-unfolding laterOf
 outOf r = union (num (r .first)) (laterOf r)
 
 -- q has a member, and all its members are in g
@@ -44,7 +43,6 @@ liesIn q g = not (eqb q 0) && inside q g
 -- Whether the condition of a row holds when the nodes of g have granted. Kind 0: always. Kind 1: at least the threshold of
 -- the first set have granted. Kind 2: all of at least one nonempty set have granted. No other kind is accepted.
 unfoldable pub holdsOf : Row → ℕ → Bool
-unfolding liesIn
 holdsOf r g =
     cond (eqb (r .kind) 0) true
     (cond (eqb (r .kind) 1) (leb (r .threshold) (size (meet (num (r .first)) g)))

@@ -23,7 +23,6 @@ pub record Lawful (w : Waits) : Type 0 where
 
 -- IN of a node: every node that has it in OUT
 unfoldable pub inOf : Waits → ℕ → ℕ
-unfolding gather
 inOf w j = gather (λ i. has (w .out i) j) (w .nodes)
 
 -- the edges that leave the nodes below k: the members of their OUT
@@ -33,5 +32,4 @@ edgesTo w (suc k) = edgesTo w k + size (w .out k)
 
 -- all edges
 unfoldable pub edges : Waits → ℕ
-unfolding edgesTo
 edges w = edgesTo w (w .nodes)

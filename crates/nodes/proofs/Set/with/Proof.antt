@@ -1,5 +1,5 @@
 use Rattle.nodes.proofs.Bit.{shl-one}
-use Rattle.nodes.specs.Sets.{with}
+use Rattle.nodes.specs.Sets.{union, single, with}
 use lib.Bits.{bitOr}
 use mathlib.Core.Path.{ap}
 use borrow.Author.Needs.{needs}
@@ -14,7 +14,7 @@ shl-t5 c = search needs
 
 -- src/lib.rt:57:5
 returns : tie.Need-returns
-unfolding with
+unfolding with union single
 returns c = ap (bitOr (c .before .args .self .0)) (shl-one 64 (c .before .args .k .0) (c .before .pre))
 
 pub with-spec : {M : Type 1} → statement M
