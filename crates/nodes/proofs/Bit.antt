@@ -5,7 +5,7 @@ use mathlib.Core.Logic.{_⊎_, inl, inr, ⊎-elim, _↔_}
 use mathlib.Core.List.{List, [], _∷_, List·Memᴰ}
 use mathlib.Core.List.List·Memᴰ.{List·Memᴰ·head as here, List·Memᴰ·tail as there}
 use Prim.Native.Nat.{ℕ, zero, suc, _+_, _-_, _*_, _/_, _%_, _^_, _≤_, _<_, zero-le, suc-le-suc, min, max}
-use native.Mathlib.Nat.{mod-lt, zero-lt-suc, div-one, le-of-suc-le-suc, not-suc-le-zero, div-add-mod', pow-suc, one-mul, div-eq-of-lt, le-dest, lt-of-lt-of-le, lt-suc-self, eq-or-lt-of-le, le-refl, le-trans, mod-eq-of-lt, mul-mod-left}
+use native.Mathlib.Nat.{mod-lt, zero-lt-suc, div-one, le-of-suc-le-suc, not-suc-le-zero, div-add-mod', pow-suc, one-mul, div-eq-of-lt, le-dest, lt-of-lt-of-le, lt-suc-self, eq-or-lt-of-le, le-refl, le-trans, mul-mod-left}
 use native.Mathlib.Omega.{arith}
 use native.Mathlib.Numerals.{add-one, one-add}
 use native.Mathlib.Decide.{decLt, ℕ-discrete}
@@ -13,7 +13,7 @@ use lib.Dec.{eqb, lit<}
 use lib.Arith.{lt-one, digits-mod}
 use lib.Pow.{pow-pos, pow-add, shr-shr, pow-lt, shl-shr, shr-lt, pow-mono, field, mod-mod-pow, ones-lt, shl-exact}
 use lib.Bits.{bitAnd, bitOr, bitXor, differ, and-shr, or-shr, xor-shr, and-step, or-step, xor-step, or-lt, and-le-l}
-use borrow.Author.Tests.{eqb-true, eqb-false, eq-eqb, ne-eqb}
+use borrow.Author.Tests.{eqb-true, eq-eqb}
 use Rattle.lemmas.proofs.Tests.{not-true-false, not-both}
 use Rattle.nodes.specs.Sets.{bit, In, has, union, meet, minus, single, with, below, inside, Inside, keep, gather, setOf}
 

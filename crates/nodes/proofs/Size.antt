@@ -1,23 +1,23 @@
 -- The members of a set as an ascending list, and its size: for every width. Assumes nothing.
 use mathlib.Core.Path.{_≡_, refl, sym, ap, ap₂, _∙_}
 use mathlib.Core.Bool.{Bool, true, false}
-use mathlib.Core.Logic.{_⊎_, inl, inr, ⊎-elim, _↔_}
-use mathlib.Core.List.{List, [], _∷_, _++_, append-assoc, append-nil, List·Memᴰ, List·Memᴰ·append-cases, List·Memᴰ·eq-of-singleton, Memᴰ·append-left, Memᴰ·append-right}
-use mathlib.Core.List.List·Memᴰ.{List·Memᴰ·head as here, List·Memᴰ·tail as there}
-use Prim.Native.Nat.{ℕ, zero, suc, _+_, _-_, _*_, _/_, _%_, _^_, _≤_, _<_, zero-le, min, max}
+use mathlib.Core.Logic.{⊎-elim, _↔_}
+use mathlib.Core.List.{List, [], _++_, append-assoc, append-nil, List·Memᴰ, List·Memᴰ·append-cases, List·Memᴰ·eq-of-singleton, Memᴰ·append-left, Memᴰ·append-right}
+use mathlib.Core.List.List·Memᴰ.{List·Memᴰ·head as here}
+use Prim.Native.Nat.{ℕ, zero, suc, _+_, _*_, _/_, _%_, _^_, _≤_, _<_, min, max}
 use native.Mathlib.Nat.{le-refl, not-suc-le-zero, add-zero, add-suc, suc-add, mul-one, one-mul, mod-lt, eq-or-lt-of-le, le-of-suc-le-suc, mod-eq-of-lt}
 use native.Mathlib.Omega.{arith}
 use native.Mathlib.Numerals.{add-one}
 use native.Mathlib.Decide.{le-ind, ℕ-discrete}
-use lib.Dec.{eqb, lit<}
+use lib.Dec.{eqb}
 use lib.Arith.{half-le, bin-ind, lt-one, digits-mod, digits-div}
-use lib.Pow.{pow-pos, split, shr-lt, mod-pow-add}
+use lib.Pow.{pow-pos, shr-lt, mod-pow-add}
 use lib.Bits.{bitAnd, bitOr, block-half, block-odd, and-step, or-step, and-zero-l, or-zero-l}
 use lib.ListN.{length, length-append}
 use Rattle.lemmas.specs.Lists.{Ascending}
 use Rattle.lemmas.proofs.Lists.{ascending-snoc}
 use Rattle.nodes.specs.Sets.{bit, In, has, union, meet, with, single, Inside, only, membersFrom, members, size}
-use Rattle.nodes.proofs.Bit.{bit-zero, bit-suc, bit-le, bit-above, in-lt, has-bit, has-in, in-has, pow-gt, with-union, bit-meet, bit-single-other, empty-same}
+use Rattle.nodes.proofs.Bit.{bit-zero, bit-suc, bit-le, in-lt, has-bit, has-in, in-has, pow-gt, with-union, bit-meet, bit-single-other, empty-same}
 
 -- ---- the members from k on, however large the bound of the recursion
 more : (f k s : ℕ) → s ≤ f → membersFrom (suc f) k s ≡ membersFrom f k s

@@ -1,17 +1,16 @@
 -- What a walk over the first k places of a set has seen: for every width. Assumes nothing.
-use mathlib.Core.Path.{_≡_, refl, sym, ap, ap₂, _∙_}
-use mathlib.Core.Bool.{Bool, true, false}
-use mathlib.Core.List.{List, [], _∷_, _++_}
-use Prim.Native.Nat.{ℕ, zero, suc, _+_, _-_, _*_, _/_, _%_, _^_, _≤_, _<_}
-use native.Mathlib.Nat.{add-zero, mod-lt, mod-eq-of-lt, mul-zero, zero-mul, zero-add}
+use mathlib.Core.Path.{_≡_, sym, ap, ap₂, _∙_}
+use mathlib.Core.Bool.{true}
+use mathlib.Core.List.{List, _++_}
+use Prim.Native.Nat.{ℕ, suc, _+_, _*_, _/_, _%_, _^_, _≤_, _<_}
+use native.Mathlib.Nat.{add-zero, mod-lt, mod-eq-of-lt, zero-mul, zero-add}
 use native.Mathlib.Omega.{arith}
 use native.Mathlib.Decide.{decLt}
 use lib.Dec.{eqb}
 use lib.Arith.{lt-one}
 use lib.Pow.{pow-pos, mod-pow-add, split}
-use Rattle.nodes.specs.declared.Smallest.{Smallest}
 use Rattle.nodes.specs.declared.Smallest.the-variants.{At, Nothing}
-use Rattle.nodes.specs.Sets.{bit, In, inside, Inside, only, members}
+use Rattle.nodes.specs.Sets.{bit, inside, only, members}
 use Rattle.nodes.specs.Words.{firstOf}
 use Rattle.nodes.proofs.Bit.{bit-above, of-inside}
 use Rattle.nodes.proofs.Size.{from, from-none, from-step, from-cat, members-from}

@@ -2,7 +2,6 @@
 use mathlib.Core.List.{List, [], _∷_}
 use Prim.Native.Nat.{ℕ}
 use Rattle.nodes.specs.declared.Set.{Set}
-use Rattle.nodes.specs.declared.Node.{Node}
 use Rattle.nodes.specs.declared.Smallest.{Smallest}
 use Rattle.nodes.specs.declared.Smallest.the-variants.{At, Nothing}
 

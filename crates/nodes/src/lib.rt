@@ -105,9 +105,9 @@ impl Set {
         true
     }
 
-    // How many members there are, place by place.
+    // How many members there are, place by place. The bound spares callers the width of a set.
     pub fn size(self) -> u64
-        ensures { λ r. ⌜ r ≡ size (num self) ⌝ }
+        ensures { λ r. ⌜ (r ≡ size (num self)) × (r ≤ places) ⌝ }
     {
         let mut count: u64 = 0;
         let mut k: usize = 0;

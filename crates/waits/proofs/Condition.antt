@@ -1,18 +1,17 @@
 -- The condition of a row, kind by kind, and that it reads only OUT and is never unmet by more grants. Assumes nothing.
-use mathlib.Core.Path.{_≡_, refl, sym, ap, _∙_}
-use mathlib.Core.Bool.{Bool, true, false, not, _&&_, _||_}
-use mathlib.Core.Logic.{_⊎_, inl, inr}
-use mathlib.Core.List.{List, [], _∷_, List·Memᴰ}
+use mathlib.Core.Path.{_≡_, sym, ap, _∙_}
+use mathlib.Core.Bool.{true, false, not}
+use mathlib.Core.Logic.{inl, inr}
+use mathlib.Core.List.{List·Memᴰ}
 use mathlib.Core.List.List·Memᴰ.{List·Memᴰ·head as here, List·Memᴰ·tail as there}
-use Prim.Native.Nat.{ℕ, zero, suc, _≤_}
+use Prim.Native.Nat.{ℕ}
 use native.Mathlib.Nat.{le-trans}
-use native.Mathlib.Omega.{arith}
 use lib.Dec.{leb, eqb}
-use borrow.Author.Tests.{leb-true, le-leb, eqb-true}
+use borrow.Author.Tests.{leb-true, le-leb}
 use Rattle.lemmas.specs.Lists.{anyOf}
 use Rattle.lemmas.proofs.Tests.{cond-mono, and-intro, and-left, and-right, same-test, not-true-false}
 use Rattle.lemmas.proofs.Lists.{any-some, some-any}
-use Rattle.nodes.specs.Sets.{bit, In, Inside, union, meet, inside, size}
+use Rattle.nodes.specs.Sets.{bit, In, union, meet, inside, size}
 use Rattle.nodes.specs.Words.{num}
 use Rattle.nodes.proofs.Bit.{in-union, in-meet, inside-in, inside-of, of-inside, inside-empty}
 use Rattle.nodes.proofs.Size.{size-mono}

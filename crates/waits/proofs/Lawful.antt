@@ -1,23 +1,22 @@
 -- Rows that are accepted give a lawful graph of waits. Assumes nothing.
-use mathlib.Core.Path.{_≡_, refl, sym, ap, _∙_}
-use mathlib.Core.Bool.{Bool, true, false, not, _&&_, _||_, true≢false, false≢true}
+use mathlib.Core.Path.{_≡_, refl, _∙_}
+use mathlib.Core.Bool.{true, false, _&&_}
 use mathlib.Core.Logic.{_⊎_, inl, inr, ⊎-elim}
 use mathlib.Core.List.{List}
 use Prim.Native.Nat.{ℕ, zero, suc, _≤_, _<_}
 use native.Mathlib.Omega.{arith}
 use lib.Dec.{leb, eqb}
 use borrow.Author.Tests.{leb-true, lt-leb, ltb-false, eqb-true, eqb-false, eq-eqb, not-false}
-use Rattle.lemmas.specs.Lists.{anyOf}
 use Rattle.lemmas.proofs.Cases.{of-true, and-rest}
 use Rattle.lemmas.proofs.Tests.{and-left, and-right, or-left-false, not-both, not-true-false}
 use Rattle.lemmas.proofs.Lists.{any-some}
-use Rattle.nodes.specs.Sets.{bit, In, Inside, meet, inside, below, size}
+use Rattle.nodes.specs.Sets.{In, Inside, meet, size}
 use Rattle.nodes.specs.Words.{num}
-use Rattle.nodes.proofs.Bit.{in-below, in-meet, inside-of, inside-in, inside-member, inside-empty}
+use Rattle.nodes.proofs.Bit.{in-below, in-meet, inside-of, inside-in, inside-member}
 use Rattle.nodes.proofs.Size.{size-mono, size-empty}
 use Rattle.waits.specs.declared.rows.Row.{Row}
 use Rattle.waits.specs.declared.numbers.Checked.the-variants.{Accepted}
-use Rattle.waits.specs.Waits.{Waits, Lawful}
+use Rattle.waits.specs.Waits.{Lawful}
 use Rattle.waits.specs.Rows.{rowAt, setsOf, outOf, liesIn, holdsOf, waitsOf}
 use Rattle.waits.specs.Numbers.{strangeKind, strangeMember, wrongThreshold, extraSet, nested, badSets, checkOf}
 use Rattle.waits.proofs.Table.{Fine, accepted-row}

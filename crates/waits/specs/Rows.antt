@@ -1,8 +1,8 @@
 -- What rows mean: six numbers a node, its kind, its threshold and four sets. Assumes nothing.
 use mathlib.Core.Bool.{Bool, true, false, cond, not, _&&_}
 use mathlib.Core.List.{List, [], _∷_}
-use Prim.Native.Nat.{ℕ, _+_, _*_, _≤_}
 use mathlib.Core.Path.{_≡_}
+use Prim.Native.Nat.{ℕ, _+_, _*_, _≤_}
 use lib.Dec.{leb, eqb}
 use lib.ListN.{getD, length}
 use Rattle.lemmas.specs.Lists.{anyOf}

@@ -1,17 +1,15 @@
-use Rattle.nodes.proofs.Walk.{inside-all}
-use Rattle.nodes.proofs.Bit.{not-inside}
-use Rattle.nodes.specs.Words.{num}
-use Rattle.nodes.specs.Sets.{bit}
+-- `Set::inside` meets its contract. The loop's invariant: no place passed is in the set and not in t. Assumes nothing.
+use mathlib.Core.Path.{_≡_, sym}
+use Prim.Native.Nat.{ℕ, _<_, _-_, _≤_}
+use native.Mathlib.Omega.{arith}
 use borrow.Author.Needs.{needs}
 use borrow.Author.Count.{below-more}
-use native.Mathlib.Omega.{arith}
-use mathlib.Core.Path.{_≡_, refl, sym, ap, _∙_}
-use Prim.Native.Nat.{ℕ, _<_, _-_, _≤_}
+use Rattle.nodes.specs.Words.{num}
+use Rattle.nodes.specs.Sets.{bit}
+use Rattle.nodes.proofs.Walk.{inside-all}
+use Rattle.nodes.proofs.Bit.{not-inside}
 use Rattle.nodes.proofs.Set.inside.Statement.{statement}
 use Rattle.nodes.proofs.Set.inside.Tie as tie
-use Rattle.nodes.proofs.Set.inside.Reads as reads
-use Rattle.nodes.proofs.Set.inside.Lts as lts
-use Rattle.nodes.proofs.Set.digit.Reads as digit-reads
 
 abbrev Inv-loop : tie.InvT-loop
 Inv-loop self t k₀ k = (k ≤ 64) × ((j : ℕ) → j < k → bit (num self) j ≤ bit (num t) j)
@@ -19,35 +17,27 @@ Inv-loop self t k₀ k = (k ≤ 64) × ((j : ℕ) → j < k → bit (num self) j
 abbrev μ-loop : tie.MeasureT-loop
 μ-loop self t k₀ k = 64 - k
 
--- src/lib.rt:99:9
 loop-holds : tie.Need-loop-holds Inv-loop μ-loop
 loop-holds c = (search needs, λ j h. omega arith)
 
--- src/lib.rt:100:16
 digit-requires : tie.Need-digit-requires Inv-loop μ-loop
 digit-requires c κs = search needs
 
--- src/lib.rt:100:29
 digit-requires-2 : tie.Need-digit-requires-2 Inv-loop μ-loop
 digit-requires-2 c κs = search needs
 
--- src/lib.rt:101:17
 returns : tie.Need-returns Inv-loop μ-loop
 returns c = sym (not-inside _ _ (c .before .before .before .before .loop .k) (omega arith))
 
--- src/lib.rt:103:13
 add-k : tie.Need-add-k Inv-loop μ-loop
 add-k c = search needs
 
--- src/lib.rt:99:9
 loop-less : tie.Need-loop-less Inv-loop μ-loop
 loop-less c = search needs
 
--- src/lib.rt:99:9
 loop-again : tie.Need-loop-again Inv-loop μ-loop
 loop-again c = (search needs, below-more _ _ (c .before .before .before .before .loop .inv .1) (omega arith))
 
--- src/lib.rt:95:5
 returns-2 : tie.Need-returns-2 Inv-loop μ-loop
 returns-2 c = let e : (c .before .loop .k) ≡ 64 = omega arith in sym (inside-all 64 _ _ (omega arith) (λ j h. (c .before .loop .inv .1) j (omega arith)))
 

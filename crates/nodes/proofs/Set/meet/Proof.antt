@@ -1,11 +1,9 @@
-use Rattle.nodes.specs.Sets.{meet}
+-- `Set::meet` meets its contract. Assumes nothing.
 use mathlib.Core.Path.{refl}
+use Rattle.nodes.specs.Sets.{meet}
 use Rattle.nodes.proofs.Set.meet.Statement.{statement}
 use Rattle.nodes.proofs.Set.meet.Tie as tie
-use Rattle.nodes.proofs.Set.meet.Reads as reads
-use Rattle.nodes.proofs.Set.meet.Lts as lts
 
--- src/lib.rt:71:5
 returns : tie.Need-returns
 unfolding meet
 returns c = refl

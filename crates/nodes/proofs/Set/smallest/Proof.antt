@@ -1,16 +1,13 @@
+-- `Set::smallest` meets its contract. The loop's invariant: no digit passed is set. Assumes nothing.
+use mathlib.Core.Path.{_≡_, sym, ap, _∙_}
+use Prim.Native.Nat.{ℕ, _-_, _≤_, _%_, _^_}
+use native.Mathlib.Omega.{arith}
+use borrow.Author.Needs.{needs}
+use Rattle.nodes.specs.Words.{num}
 use Rattle.nodes.proofs.Walk.{none-at-first, none-yet, nothing, first-at}
 use Rattle.nodes.proofs.Bit.{bit-le}
-use Rattle.nodes.specs.Words.{num}
-use Rattle.nodes.specs.Sets.{bit}
-use borrow.Author.Needs.{needs}
-use native.Mathlib.Omega.{arith}
-use mathlib.Core.Path.{_≡_, refl, sym, ap, _∙_}
-use Prim.Native.Nat.{ℕ, _<_, _-_, _≤_, _%_, _^_}
 use Rattle.nodes.proofs.Set.smallest.Statement.{statement}
 use Rattle.nodes.proofs.Set.smallest.Tie as tie
-use Rattle.nodes.proofs.Set.smallest.Reads as reads
-use Rattle.nodes.proofs.Set.smallest.Lts as lts
-use Rattle.nodes.proofs.Set.digit.Reads as digit-reads
 
 abbrev Inv-loop : tie.InvT-loop
 Inv-loop self k₀ k = (k ≤ 64) × (num self % 2 ^ k ≡ 0)
@@ -18,31 +15,24 @@ Inv-loop self k₀ k = (k ≤ 64) × (num self % 2 ^ k ≡ 0)
 abbrev μ-loop : tie.MeasureT-loop
 μ-loop self k₀ k = 64 - k
 
--- src/lib.rt:125:9
 loop-holds : tie.Need-loop-holds Inv-loop μ-loop
 loop-holds c = (search needs, none-at-first _)
 
--- src/lib.rt:126:16
 digit-requires : tie.Need-digit-requires Inv-loop μ-loop
 digit-requires c κs = search needs
 
--- src/lib.rt:127:17
 returns : tie.Need-returns Inv-loop μ-loop
 returns c = first-at _ _ (c .before .before .before .loop .inv .1) (sym (c .before .digit .ensures) ∙ (c .if1 .taken))
 
--- src/lib.rt:129:13
 add-k : tie.Need-add-k Inv-loop μ-loop
 add-k c = search needs
 
--- src/lib.rt:125:9
 loop-less : tie.Need-loop-less Inv-loop μ-loop
 loop-less c = search needs
 
--- src/lib.rt:125:9
 loop-again : tie.Need-loop-again Inv-loop μ-loop
 loop-again c = (search needs, none-yet _ _ (c .before .before .before .loop .inv .1) (omega (arith, bit-le (c .before .before .before .before .args .self .0) (c .before .before .before .loop .k))))
 
--- src/lib.rt:121:5
 returns-2 : tie.Need-returns-2 Inv-loop μ-loop
 returns-2 c = let e : (c .before .loop .k) ≡ 64 = omega arith in nothing 64 _ (omega arith) (ap (λ (x : ℕ). (c .before .before .args .self .0) % 2 ^ x) (sym e) ∙ (c .before .loop .inv .1))
 

@@ -1,58 +1,44 @@
-use Rattle.waits.proofs.Cases.{nested-four}
-use Rattle.lemmas.proofs.Cases.{or-here, or-later, flag}
+-- `has_nested` meets its contract: the six pairs in turn. Assumes nothing.
 use mathlib.Core.Path.{sym, _∙_}
 use borrow.Author.Needs.{needs}
+use Rattle.lemmas.proofs.Cases.{or-here, or-later, flag}
+use Rattle.waits.proofs.Cases.{nested-four}
 use Rattle.waits.proofs.numbers.has_nested.Statement.{statement}
 use Rattle.waits.proofs.numbers.has_nested.Tie as tie
-use Rattle.waits.proofs.numbers.has_nested.Reads as reads
-use Rattle.waits.proofs.numbers.has_nested.Lts as lts
-use Rattle.waits.proofs.numbers.either.Reads as either-reads
 
--- src/numbers.rt:99:8
 either-requires : tie.Need-either-requires
 either-requires c κs = search needs
 
--- src/numbers.rt:100:9
 returns : tie.Need-returns
 returns c = (or-here _ (flag (c .before .either .ensures) (c .if1 .taken))) ∙ sym (nested-four _ _ _ _)
 
--- src/numbers.rt:102:8
 either-requires-2 : tie.Need-either-requires-2
 either-requires-2 c κs = search needs
 
--- src/numbers.rt:103:9
 returns-2 : tie.Need-returns-2
 returns-2 c = (or-later (flag (c .before .before .before .either .ensures) (c .before .before .if1 .left)) (or-here _ (flag (c .before .either2 .ensures) (c .if2 .taken)))) ∙ sym (nested-four _ _ _ _)
 
--- src/numbers.rt:105:8
 either-requires-3 : tie.Need-either-requires-3
 either-requires-3 c κs = search needs
 
--- src/numbers.rt:106:9
 returns-3 : tie.Need-returns-3
 returns-3 c = (or-later (flag (c .before .before .before .before .before .either .ensures) (c .before .before .before .before .if1 .left)) (or-later (flag (c .before .before .before .either2 .ensures) (c .before .before .if2 .left)) (or-here _ (flag (c .before .either3 .ensures) (c .if3 .taken))))) ∙ sym (nested-four _ _ _ _)
 
--- src/numbers.rt:108:8
 either-requires-4 : tie.Need-either-requires-4
 either-requires-4 c κs = search needs
 
--- src/numbers.rt:109:9
 returns-4 : tie.Need-returns-4
 returns-4 c = (or-later (flag (c .before .before .before .before .before .before .before .either .ensures) (c .before .before .before .before .before .before .if1 .left)) (or-later (flag (c .before .before .before .before .before .either2 .ensures) (c .before .before .before .before .if2 .left)) (or-later (flag (c .before .before .before .either3 .ensures) (c .before .before .if3 .left)) (or-here _ (flag (c .before .either4 .ensures) (c .if4 .taken)))))) ∙ sym (nested-four _ _ _ _)
 
--- src/numbers.rt:111:8
 either-requires-5 : tie.Need-either-requires-5
 either-requires-5 c κs = search needs
 
--- src/numbers.rt:112:9
 returns-5 : tie.Need-returns-5
 returns-5 c = (or-later (flag (c .before .before .before .before .before .before .before .before .before .either .ensures) (c .before .before .before .before .before .before .before .before .if1 .left)) (or-later (flag (c .before .before .before .before .before .before .before .either2 .ensures) (c .before .before .before .before .before .before .if2 .left)) (or-later (flag (c .before .before .before .before .before .either3 .ensures) (c .before .before .before .before .if3 .left)) (or-later (flag (c .before .before .before .either4 .ensures) (c .before .before .if4 .left)) (or-here _ (flag (c .before .either5 .ensures) (c .if5 .taken))))))) ∙ sym (nested-four _ _ _ _)
 
--- src/numbers.rt:114:5
 either-requires-6 : tie.Need-either-requires-6
 either-requires-6 c κs = search needs
 
--- src/numbers.rt:92:1
 returns-6 : tie.Need-returns-6
 returns-6 c = (or-later (flag (c .before .before .before .before .before .before .before .before .before .before .either .ensures) (c .before .before .before .before .before .before .before .before .before .if1 .left)) (or-later (flag (c .before .before .before .before .before .before .before .before .either2 .ensures) (c .before .before .before .before .before .before .before .if2 .left)) (or-later (flag (c .before .before .before .before .before .before .either3 .ensures) (c .before .before .before .before .before .if3 .left)) (or-later (flag (c .before .before .before .before .either4 .ensures) (c .before .before .before .if4 .left)) (or-later (flag (c .before .before .either5 .ensures) (c .before .if5 .left)) ((c .either6 .ensures))))))) ∙ sym (nested-four _ _ _ _)
 

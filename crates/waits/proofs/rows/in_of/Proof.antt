@@ -1,24 +1,17 @@
-use Rattle.waits.proofs.Cases.{waits-on}
-use Rattle.waits.specs.Rows.{rowAt, outOf}
-use Rattle.waits.specs.Waits.{inOf}
+-- `in_of` meets its contract. The loop's invariant: the nodes passed that have j in OUT are gathered. Assumes nothing.
+use mathlib.Core.Logic.{⊎-elim}
+use mathlib.Core.Path.{_≡_, ap, sym, _∙_}
+use Prim.Native.Nat.{_≤_, _-_}
+use native.Mathlib.Omega.{arith}
+use borrow.Author.Needs.{needs}
 use Rattle.nodes.proofs.Bit.{gather-none, gather-yes, gather-no}
 use Rattle.nodes.specs.Words.{num}
-use Rattle.nodes.specs.Sets.{has, gather, with}
-use borrow.Author.Needs.{needs}
-use native.Mathlib.Omega.{arith}
-use Prim.Native.Nat.{ℕ, _≤_, _<_, _-_, _+_}
-use mathlib.Core.Bool.{Bool, true, false}
-use mathlib.Core.Logic.{⊎-elim}
-use mathlib.Core.Path.{_≡_, refl, ap, sym, _∙_}
+use Rattle.nodes.specs.Sets.{has, gather}
+use Rattle.waits.specs.Rows.{rowAt, outOf}
+use Rattle.waits.specs.Waits.{inOf}
+use Rattle.waits.proofs.Cases.{waits-on}
 use Rattle.waits.proofs.rows.in_of.Statement.{statement}
 use Rattle.waits.proofs.rows.in_of.Tie as tie
-use Rattle.waits.proofs.rows.in_of.Reads as reads
-use Rattle.waits.proofs.rows.in_of.Lts as lts
-use Rattle.nodes.proofs.Set.empty.Reads as empty-reads
-use Rattle.nodes.proofs.Set.has.Reads as has-reads
-use Rattle.nodes.proofs.Set.with.Reads as with-reads
-use Rattle.waits.proofs.rows.out_of.Reads as out-of-reads
-use Rattle.waits.proofs.rows.row_at.Reads as row-at-reads
 
 abbrev Inv-loop : tie.InvT-loop
 Inv-loop nodes rows j found₀ k₀ found k = (k ≤ nodes) × (num found ≡ gather (λ i. has (outOf (rowAt rows i)) (j .0)) k)
@@ -26,43 +19,33 @@ Inv-loop nodes rows j found₀ k₀ found k = (k ≤ nodes) × (num found ≡ ga
 abbrev μ-loop : tie.MeasureT-loop
 μ-loop nodes rows j found₀ k₀ found k = nodes - k
 
--- src/rows.rt:109:9
 empty-requires : tie.Need-empty-requires Inv-loop μ-loop
 empty-requires c κs = search needs
 
--- src/rows.rt:111:5
 loop-holds : tie.Need-loop-holds Inv-loop μ-loop
 loop-holds c = (search needs, (c .empty .ensures) ∙ sym (gather-none _))
 
--- src/rows.rt:112:13
 row-at-requires : tie.Need-row-at-requires Inv-loop μ-loop
 row-at-requires c κs = omega arith
 
--- src/rows.rt:113:12
 out-of-requires : tie.Need-out-of-requires Inv-loop μ-loop
 out-of-requires c κs = search needs
 
--- src/rows.rt:113:12
 has-requires : tie.Need-has-requires Inv-loop μ-loop
 has-requires c κs = search needs
 
--- src/rows.rt:114:13
 with-requires : tie.Need-with-requires Inv-loop μ-loop
 with-requires c κs = omega arith
 
--- src/rows.rt:116:9
 add-k : tie.Need-add-k Inv-loop μ-loop
 add-k c = omega arith
 
--- src/rows.rt:111:5
 loop-less : tie.Need-loop-less Inv-loop μ-loop
 loop-less c = omega arith
 
--- src/rows.rt:111:5
 loop-again : tie.Need-loop-again Inv-loop μ-loop
 loop-again c = (omega arith, ⊎-elim (λ v. ap num (v .2) ∙ v .1 .ensures ∙ gather-yes _ _ _ (c .before .before .before .before .before .loop .inv .1) (waits-on _ _ _ (c .before .has .ensures) (c .before .before .out-of .ensures) (c .before .before .before .row-at .ensures) (v .0 .taken))) (λ v. ap num (v .1) ∙ gather-no _ _ _ (c .before .before .before .before .before .loop .inv .1) (waits-on _ _ _ (c .before .has .ensures) (c .before .before .out-of .ensures) (c .before .before .before .row-at .ensures) (v .0 .left))) (c .if1 .came))
 
--- src/rows.rt:105:1
 returns : tie.Need-returns Inv-loop μ-loop
 unfolding inOf
 returns c = let e : (c .before .loop .k) ≡ (c .before .before .before .before .args .nodes) = omega arith in (c .before .loop .inv .1) ∙ ap (gather (λ i. has (outOf (rowAt (c .before .before .before .before .args .rows .now) i)) (c .before .before .before .before .args .j .0))) e

@@ -1,22 +1,17 @@
-use Rattle.waits.specs.Rows.{laterOf}
-use Rattle.nodes.specs.Sets.{union}
+-- `later` meets its contract. Assumes nothing.
 use mathlib.Core.Path.{ap, _∙_}
 use borrow.Author.Needs.{needs}
+use Rattle.nodes.specs.Sets.{union}
+use Rattle.waits.specs.Rows.{laterOf}
 use Rattle.waits.proofs.rows.later.Statement.{statement}
 use Rattle.waits.proofs.rows.later.Tie as tie
-use Rattle.waits.proofs.rows.later.Reads as reads
-use Rattle.waits.proofs.rows.later.Lts as lts
-use Rattle.nodes.proofs.Set.union.Reads as union-reads
 
--- src/rows.rt:49:13
 union-requires : tie.Need-union-requires
 union-requires c κs = search needs
 
--- src/rows.rt:49:5
 union-requires-2 : tie.Need-union-requires-2
 union-requires-2 c κs = search needs
 
--- src/rows.rt:43:1
 returns : tie.Need-returns
 unfolding laterOf
 returns c = (c .union2 .ensures) ∙ ap (union (c .before .before .before .before .before .args .row .second .0)) (c .before .union .ensures)

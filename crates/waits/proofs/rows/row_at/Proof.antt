@@ -1,84 +1,64 @@
-use Rattle.waits.specs.Rows.{rowAt}
+-- `row_at` meets its contract: the six indices lie within the rows. Assumes nothing.
 use mathlib.Core.Path.{refl}
 use borrow.Author.Needs.{needs}
+use Rattle.waits.specs.Rows.{rowAt}
 use Rattle.waits.proofs.rows.row_at.Statement.{statement}
 use Rattle.waits.proofs.rows.row_at.Tie as tie
-use Rattle.waits.proofs.rows.row_at.Reads as reads
-use Rattle.waits.proofs.rows.row_at.Lts as lts
 
--- src/rows.rt:31:14
 mul-at : tie.Need-mul-at
 mul-at c = search needs
 
--- src/rows.rt:33:15
 mul-t4 : tie.Need-mul-t4
 mul-t4 c = search needs
 
--- src/rows.rt:33:15
 shared-slice-read-t6 : tie.Need-shared-slice-read-t6
 shared-slice-read-t6 c = search needs
 
--- src/rows.rt:34:25
 add-t7 : tie.Need-add-t7
 add-t7 c = search needs
 
--- src/rows.rt:34:20
 mul-t8 : tie.Need-mul-t8
 mul-t8 c = search needs
 
--- src/rows.rt:34:20
 shared-slice-read-t10 : tie.Need-shared-slice-read-t10
 shared-slice-read-t10 c = search needs
 
--- src/rows.rt:35:25
 add-t11 : tie.Need-add-t11
 add-t11 c = search needs
 
--- src/rows.rt:35:20
 mul-t12 : tie.Need-mul-t12
 mul-t12 c = search needs
 
--- src/rows.rt:35:20
 shared-slice-read-t14 : tie.Need-shared-slice-read-t14
 shared-slice-read-t14 c = search needs
 
--- src/rows.rt:36:26
 add-t16 : tie.Need-add-t16
 add-t16 c = search needs
 
--- src/rows.rt:36:21
 mul-t17 : tie.Need-mul-t17
 mul-t17 c = search needs
 
--- src/rows.rt:36:21
 shared-slice-read-t19 : tie.Need-shared-slice-read-t19
 shared-slice-read-t19 c = search needs
 
--- src/rows.rt:37:25
 add-t21 : tie.Need-add-t21
 add-t21 c = search needs
 
--- src/rows.rt:37:20
 mul-t22 : tie.Need-mul-t22
 mul-t22 c = search needs
 
--- src/rows.rt:37:20
 shared-slice-read-t24 : tie.Need-shared-slice-read-t24
 shared-slice-read-t24 c = search needs
 
--- src/rows.rt:38:26
 add-t26 : tie.Need-add-t26
 add-t26 c = search needs
 
--- src/rows.rt:38:21
 mul-t27 : tie.Need-mul-t27
 mul-t27 c = search needs
 
--- src/rows.rt:38:21
 shared-slice-read-t29 : tie.Need-shared-slice-read-t29
 shared-slice-read-t29 c = search needs
 
--- src/rows.rt:27:1
 returns : tie.Need-returns
 unfolding rowAt
 returns c = refl

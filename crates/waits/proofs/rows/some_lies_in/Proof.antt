@@ -1,42 +1,32 @@
-use Rattle.lemmas.proofs.Cases.{or-here, or-later, flag}
+-- `some_lies_in` meets its contract: the four sets in turn. Assumes nothing.
 use mathlib.Core.Bool.{or-false}
-use mathlib.Core.Path.{ap, sym, _∙_}
+use mathlib.Core.Path.{sym, _∙_}
 use borrow.Author.Needs.{needs}
+use Rattle.lemmas.proofs.Cases.{or-here, or-later, flag}
 use Rattle.waits.proofs.rows.some_lies_in.Statement.{statement}
 use Rattle.waits.proofs.rows.some_lies_in.Tie as tie
-use Rattle.waits.proofs.rows.some_lies_in.Reads as reads
-use Rattle.waits.proofs.rows.some_lies_in.Lts as lts
-use Rattle.waits.proofs.rows.lies_in.Reads as lies-in-reads
 
--- src/rows.rt:78:8
 lies-in-requires : tie.Need-lies-in-requires
 lies-in-requires c κs = search needs
 
--- src/rows.rt:79:9
 returns : tie.Need-returns
 returns c = or-here _ (flag (c .before .lies-in .ensures) (c .if1 .taken))
 
--- src/rows.rt:81:8
 lies-in-requires-2 : tie.Need-lies-in-requires-2
 lies-in-requires-2 c κs = search needs
 
--- src/rows.rt:82:9
 returns-2 : tie.Need-returns-2
 returns-2 c = or-later (flag (c .before .before .before .lies-in .ensures) (c .before .before .if1 .left)) (or-here _ (flag (c .before .lies-in2 .ensures) (c .if2 .taken)))
 
--- src/rows.rt:84:8
 lies-in-requires-3 : tie.Need-lies-in-requires-3
 lies-in-requires-3 c κs = search needs
 
--- src/rows.rt:85:9
 returns-3 : tie.Need-returns-3
 returns-3 c = or-later (flag (c .before .before .before .before .before .lies-in .ensures) (c .before .before .before .before .if1 .left)) (or-later (flag (c .before .before .before .lies-in2 .ensures) (c .before .before .if2 .left)) (or-here _ (flag (c .before .lies-in3 .ensures) (c .if3 .taken))))
 
--- src/rows.rt:87:5
 lies-in-requires-4 : tie.Need-lies-in-requires-4
 lies-in-requires-4 c κs = search needs
 
--- src/rows.rt:71:1
 returns-4 : tie.Need-returns-4
 returns-4 c = or-later (flag (c .before .before .before .before .before .before .lies-in .ensures) (c .before .before .before .before .before .if1 .left)) (or-later (flag (c .before .before .before .before .lies-in2 .ensures) (c .before .before .before .if2 .left)) (or-later (flag (c .before .before .lies-in3 .ensures) (c .before .if3 .left)) ((c .lies-in4 .ensures) ∙ sym (or-false _))))
 
