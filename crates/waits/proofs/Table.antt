@@ -13,8 +13,9 @@ use Rattle.waits.specs.declared.rows.Row.{Row}
 use Rattle.waits.specs.declared.numbers.Refusal.{Refusal}
 use Rattle.waits.specs.declared.numbers.Checked.{Checked}
 use Rattle.waits.specs.declared.numbers.Checked.the-variants.{Accepted, Refused}
-use Rattle.waits.specs.Rows.{rowAt}
+use Rattle.waits.specs.Rows.{rowAt, Shaped}
 use Rattle.waits.specs.Numbers.{Line, line, wrongCount, strangeKind, strangeMember, waitsOnItself, wrongThreshold, extraSet, badSets, manyEdges, rowLines, rowsLines, graphLines, firstSaid, checkOf, Silent, Gives}
+use Rattle.waits.proofs.Cases.{right-count}
 
 -- ---- one list of lines after another
 abbrev pub orElse : Checked → Checked → Checked
@@ -124,6 +125,9 @@ module _ (n : ℕ) (rows : List ℕ) (ok : checkOf n rows ≡ Accepted) where
   accepted-edges =
       check-accepted n rows .0 ok (line 8 0 (manyEdges n rows))
       (there (Memᴰ·append-right (rowsLines n rows 0 n) (here refl)))
+
+  pub accepted-shaped : Shaped n rows
+  accepted-shaped = right-count n (length rows) accepted-count
 
   accepted-lines : (k : ℕ) → k < n → Silent (rowLines n k (rowAt rows k))
   accepted-lines k h l i =

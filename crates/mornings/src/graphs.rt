@@ -1,0 +1,49 @@
+// Graphs, row by row. Sets are written in binary: the last digit is node 0.
+use nodes::Node;
+use nodes::Set;
+use waits::ROW;
+
+// Writes row k of a graph; past the end nothing is written.
+pub fn put(rows: &mut [u64], k: usize, row: [u64; 6]) {
+    if k < rows.len() / ROW {
+        let at = k * ROW;
+        rows[at] = row[0];
+        rows[at + 1] = row[1];
+        rows[at + 2] = row[2];
+        rows[at + 3] = row[3];
+        rows[at + 4] = row[4];
+        rows[at + 5] = row[5];
+    }
+}
+
+// A node that waits for any one of a set.
+pub fn one_of(set: u64) -> [u64; 6] {
+    [1, 1, set, 0, 0, 0]
+}
+
+// A node that waits for all of one set, or all of another.
+pub fn all_of(a: u64, b: u64) -> [u64; 6] {
+    [2, 0, a, b, 0, 0]
+}
+
+// Eight nodes other than k.
+fn eight(k: usize) -> u64 {
+    if k < 8 {
+        let s = Set::below(9).minus(Set::empty().with(Node(k)));
+        return s.0;
+    }
+    let s = Set::below(8);
+    s.0
+}
+
+// 64 nodes that wait on eight others each: 512 edges.
+pub fn eight_each() -> [u64; 384] {
+    let mut rows = [0u64; 384];
+    let mut k: usize = 0;
+    while k < 64 {
+        let set = eight(k);
+        put(&mut rows, k, one_of(set));
+        k += 1;
+    }
+    rows
+}

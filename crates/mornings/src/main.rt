@@ -1,0 +1,23 @@
+// What the graph check says of the paper's mornings, and of bad graphs of every kind.
+mod graphs;
+mod mornings;
+mod refusals;
+mod say;
+
+fn main() {
+    say::text(b"The mornings\n");
+    mornings::first();
+    mornings::second();
+    mornings::small();
+    mornings::ninth();
+    mornings::tenth();
+    mornings::eleventh();
+    say::text(b"\nBad graphs\n");
+    refusals::counts();
+    refusals::kinds();
+    refusals::members();
+    refusals::thresholds();
+    refusals::extra_sets();
+    refusals::bad_sets();
+    refusals::order();
+}
