@@ -1,7 +1,10 @@
 // Graphs, row by row. Sets are written in binary: the last digit is node 0.
+use crate::say::checked;
 use nodes::Node;
 use nodes::Set;
 use waits::ROW;
+
+pub const ACTIVE: [u64; 6] = [0; 6];
 
 // Writes row k of a graph; past the end nothing is written.
 pub fn put(rows: &mut [u64], k: usize, row: [u64; 6]) {
@@ -21,9 +24,19 @@ pub fn one_of(set: u64) -> [u64; 6] {
     [1, 1, set, 0, 0, 0]
 }
 
-// A node that waits for all of one set, or all of another.
-pub fn all_of(a: u64, b: u64) -> [u64; 6] {
-    [2, 0, a, b, 0, 0]
+// A line on the first rows of a graph of at most ten nodes.
+pub fn graph(label: &[u8], nodes: usize, rows: [[u64; 6]; 10]) {
+    let mut flat = [0u64; 60];
+    let mut k: usize = 0;
+    while k < 10 {
+        let row = rows[k];
+        put(&mut flat, k, row);
+        k += 1;
+    }
+    if nodes <= 10 {
+        let end = nodes * ROW;
+        checked(label, nodes, &flat[..end]);
+    }
 }
 
 // Eight nodes other than k.

@@ -6,18 +6,11 @@ mod say;
 
 fn main() {
     say::text(b"The mornings\n");
-    mornings::first();
-    mornings::second();
     mornings::small();
     mornings::ninth();
-    mornings::tenth();
     mornings::eleventh();
     say::text(b"\nBad graphs\n");
     refusals::counts();
-    refusals::kinds();
-    refusals::members();
-    refusals::thresholds();
-    refusals::extra_sets();
-    refusals::bad_sets();
+    refusals::rows();
     refusals::order();
 }

@@ -1,47 +1,66 @@
-// The graphs of the paper's mornings. Papers count nodes from 1, and rows from 0. A row that isn't put is an active node.
-use crate::graphs::all_of;
+// The graphs of the paper's mornings. Papers count nodes from 1, and rows from 0.
+use crate::graphs::ACTIVE;
 use crate::graphs::eight_each;
+use crate::graphs::graph;
 use crate::graphs::one_of;
 use crate::graphs::put;
 use crate::say::checked;
 
-// Document 000, figure 1: 1=4∨2, 2=3∧4∧5, 3=2∨(6∧7), 4=7, 5=1∨7, 6 active, 7=6.
-pub fn first() {
-    let mut g = [0u64; 42];
-    put(&mut g, 0, all_of(0b000_1000, 0b000_0010));
-    put(&mut g, 1, all_of(0b001_1100, 0));
-    put(&mut g, 2, all_of(0b000_0010, 0b110_0000));
-    put(&mut g, 3, one_of(0b100_0000));
-    put(&mut g, 4, all_of(0b000_0001, 0b100_0000));
-    put(&mut g, 6, one_of(0b010_0000));
-    checked(b"morning 1", 7, &g);
-}
+// Document 000, figure 1.
+const FIRST: [[u64; 6]; 10] = [
+    [2, 0, 0b000_1000, 0b000_0010, 0, 0], // 1 = 4 ∨ 2
+    [2, 0, 0b001_1100, 0, 0, 0], // 2 = 3 ∧ 4 ∧ 5
+    [2, 0, 0b000_0010, 0b110_0000, 0, 0], // 3 = 2 ∨ (6 ∧ 7)
+    [1, 1, 0b100_0000, 0, 0, 0], // 4 = 7
+    [2, 0, 0b000_0001, 0b100_0000, 0, 0], // 5 = 1 ∨ 7
+    ACTIVE,
+    [1, 1, 0b010_0000, 0, 0, 0], // 7 = 6
+    ACTIVE,
+    ACTIVE,
+    ACTIVE,
+];
 
-// Document 004's example: 1=(2∧3)∨4, 3=(5∧6)∨7, 4=8∧9, 5=1, 7=4, 8=7, 9=(8∧10)∨1; 2, 6, 10 active.
-pub fn second() {
-    let mut g = [0u64; 60];
-    put(&mut g, 0, all_of(0b00_0000_0110, 0b00_0000_1000));
-    put(&mut g, 2, all_of(0b00_0011_0000, 0b00_0100_0000));
-    put(&mut g, 3, all_of(0b01_1000_0000, 0));
-    put(&mut g, 4, one_of(0b00_0000_0001));
-    put(&mut g, 6, one_of(0b00_0000_1000));
-    put(&mut g, 7, one_of(0b00_0100_0000));
-    put(&mut g, 8, all_of(0b10_1000_0000, 0b00_0000_0001));
-    checked(b"morning 2", 10, &g);
-}
+// Document 004's example.
+const SECOND: [[u64; 6]; 10] = [
+    [2, 0, 0b00_0000_0110, 0b00_0000_1000, 0, 0], // 1 = (2 ∧ 3) ∨ 4
+    ACTIVE,
+    [2, 0, 0b00_0011_0000, 0b00_0100_0000, 0, 0], // 3 = (5 ∧ 6) ∨ 7
+    [2, 0, 0b01_1000_0000, 0, 0, 0], // 4 = 8 ∧ 9
+    [1, 1, 0b00_0000_0001, 0, 0, 0], // 5 = 1
+    ACTIVE,
+    [1, 1, 0b00_0000_1000, 0, 0, 0], // 7 = 4
+    [1, 1, 0b00_0100_0000, 0, 0, 0], // 8 = 7
+    [2, 0, 0b10_1000_0000, 0b00_0000_0001, 0, 0], // 9 = (8 ∧ 10) ∨ 1
+    ACTIVE,
+];
 
-// 1=2, 2=1; one active node; 1=2, 2 active.
+const FOURTH: [u64; 12] = [1, 1, 0b10, 0, 0, 0, 1, 1, 0b01, 0, 0, 0]; // 1 = 2, 2 = 1
+
+const SIXTH: [u64; 12] = [1, 1, 0b10, 0, 0, 0, 0, 0, 0, 0, 0, 0]; // 1 = 2, 2 active
+
+const TENTH: [[u64; 6]; 10] = [
+    [2, 0, 0b01010, 0, 0, 0], // 1 = 2 ∧ 4
+    [1, 1, 0b00100, 0, 0, 0], // 2 = 3
+    [1, 1, 0b00010, 0, 0, 0], // 3 = 2
+    [2, 0, 0b00001, 0b10000, 0, 0], // 4 = 1 ∨ 5
+    ACTIVE,
+    ACTIVE,
+    ACTIVE,
+    ACTIVE,
+    ACTIVE,
+    ACTIVE,
+];
+
 pub fn small() {
-    let mut g = [0u64; 12];
-    put(&mut g, 0, one_of(0b10));
-    put(&mut g, 1, one_of(0b01));
-    checked(b"morning 4", 2, &g);
-    checked(b"morning 5", 1, &[0u64; 6]);
-    put(&mut g, 1, [0; 6]);
-    checked(b"morning 6", 2, &g);
+    graph(b"morning 1", 7, FIRST);
+    graph(b"morning 2", 10, SECOND);
+    checked(b"morning 4", 2, &FOURTH);
+    checked(b"morning 5", 1, &ACTIVE);
+    checked(b"morning 6", 2, &SIXTH);
+    graph(b"morning 10", 5, TENTH);
 }
 
-// 1 needs some of {2,3,4}; 2 active, 3=1, 4=1.
+// 1 needs some of {2, 3, 4}; 2 active, 3 = 1, 4 = 1.
 fn votes(label: &[u8], needed: u64) {
     let mut g = [0u64; 24];
     put(&mut g, 0, [1, needed, 0b1110, 0, 0, 0]);
@@ -56,16 +75,6 @@ pub fn ninth() {
     votes(b"morning 9, 3 of 3", 3);
     votes(b"morning 9, 0 of 3", 0);
     votes(b"morning 9, 4 of 3", 4);
-}
-
-// 1=2∧4, 2=3, 3=2, 4=1∨5, 5 active.
-pub fn tenth() {
-    let mut g = [0u64; 30];
-    put(&mut g, 0, all_of(0b01010, 0));
-    put(&mut g, 1, one_of(0b00100));
-    put(&mut g, 2, one_of(0b00010));
-    put(&mut g, 3, all_of(0b00001, 0b10000));
-    checked(b"morning 10", 5, &g);
 }
 
 // The limits: 64 nodes and one more, 512 edges and one more.

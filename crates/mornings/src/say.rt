@@ -7,16 +7,14 @@ pub fn text(t: &[u8]) {
     io::write_all(OUT, t);
 }
 
-fn number(n: u64) {
+pub fn number(n: u64) {
     io::print_decimal(OUT, n);
 }
 
-// A line: the label, and what the graph check says of these rows.
-pub fn checked(label: &[u8], nodes: usize, rows: &[u64]) {
-    text(label);
-    text(b": ");
-    let answer = waits::check(nodes, rows);
-    match answer {
+// The rest of a line: what the graph check says of these rows.
+pub fn answer(nodes: usize, rows: &[u64]) {
+    let checked = waits::check(nodes, rows);
+    match checked {
         Checked::Accepted => {
             text(b"accepted, edges ");
             number(waits::edges(nodes, rows));
@@ -30,4 +28,11 @@ pub fn checked(label: &[u8], nodes: usize, rows: &[u64]) {
         }
     }
     text(b"\n");
+}
+
+// A whole line, with its label.
+pub fn checked(label: &[u8], nodes: usize, rows: &[u64]) {
+    text(label);
+    text(b": ");
+    answer(nodes, rows);
 }

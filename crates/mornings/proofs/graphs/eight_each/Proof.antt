@@ -1,16 +1,11 @@
-use mathlib.Core.Path.{_≡_, sym, refl, _∙_}
+-- `eight_each` meets its contract. The loop's invariant: the rows keep their length. Assumes nothing.
+use mathlib.Core.Path.{_≡_, sym, refl}
+use Prim.Native.Nat.{_≤_, _-_}
+use native.Mathlib.Omega.{arith}
 use lib.ListN.{length}
 use borrow.Author.Needs.{needs}
-use native.Mathlib.Omega.{arith}
-use mathlib.Core.Path.{_≡_}
-use Prim.Native.Nat.{_≤_, _-_}
 use Rattle.mornings.proofs.graphs.eight_each.Statement.{statement}
 use Rattle.mornings.proofs.graphs.eight_each.Tie as tie
-use Rattle.mornings.proofs.graphs.eight_each.Reads as reads
-use Rattle.mornings.proofs.graphs.eight_each.Lts as lts
-use Rattle.mornings.proofs.graphs.eight.Reads as eight-reads
-use Rattle.mornings.proofs.graphs.one_of.Reads as one-of-reads
-use Rattle.mornings.proofs.graphs.put.Reads as put-reads
 
 abbrev Inv-loop : tie.InvT-loop
 Inv-loop rows₀ k₀ rows k = (k ≤ 64) × (length rows ≡ 384)
@@ -18,39 +13,30 @@ Inv-loop rows₀ k₀ rows k = (k ≤ 64) × (length rows ≡ 384)
 abbrev μ-loop : tie.MeasureT-loop
 μ-loop rows₀ k₀ rows k = 64 - k
 
--- src/graphs.rt:44:5
 loop-holds : tie.Need-loop-holds Inv-loop μ-loop
 loop-holds c = (search needs, refl)
 
--- src/graphs.rt:45:13
 eight-requires : tie.Need-eight-requires Inv-loop μ-loop
 eight-requires c κs = search needs
 
--- src/graphs.rt:46:13
 slice-aggregate-put : tie.Need-slice-aggregate-put Inv-loop μ-loop
 slice-aggregate-put c = sym (c .before .before .before .loop .inv .1)
 
--- src/graphs.rt:46:27
 one-of-requires : tie.Need-one-of-requires Inv-loop μ-loop
 one-of-requires c κs = search needs
 
--- src/graphs.rt:46:9
 put-requires : tie.Need-put-requires Inv-loop μ-loop
 put-requires c κs = search needs
 
--- src/graphs.rt:47:9
 add-k : tie.Need-add-k Inv-loop μ-loop
 add-k c = omega arith
 
--- src/graphs.rt:44:5
 loop-less : tie.Need-loop-less Inv-loop μ-loop
 loop-less c = omega arith
 
--- src/graphs.rt:44:5
 loop-again : tie.Need-loop-again Inv-loop μ-loop
 loop-again c = (omega arith, omega (arith, (c .before .put .kept .0)))
 
--- src/graphs.rt:41:1
 returns : tie.Need-returns Inv-loop μ-loop
 returns c = tt
 

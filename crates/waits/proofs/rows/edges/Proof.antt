@@ -3,10 +3,8 @@ use mathlib.Core.Path.{_≡_, ap, sym, _∙_}
 use Prim.Native.Nat.{_≤_, _-_, _*_}
 use native.Mathlib.Omega.{arith}
 use borrow.Author.Needs.{needs}
-use Rattle.nodes.proofs.Size.{size-le}
-use Rattle.nodes.specs.Words.{num}
-use Rattle.nodes.specs.Sets.{size}
 use Rattle.nodes.specs.Words.{places}
+use Rattle.nodes.specs.Sets.{size}
 use Rattle.waits.specs.Rows.{outOf, waitsOf}
 use Rattle.waits.specs.Waits.{edgesTo, edges}
 use Rattle.waits.proofs.Cases.{edges-none, edges-suc}
