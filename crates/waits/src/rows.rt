@@ -107,13 +107,13 @@ pub fn in_of(nodes: usize, rows: &[u64], j: Node) -> Set
     ensures { λ r. ⌜ num r ≡ inOf (waitsOf nodes (now (rows .entry))) (j .0) ⌝ }
 {
     let mut found = Set::empty();
-    let mut k: usize = 0;
-    while k < nodes {
-        let row = row_at(rows, Node(k));
+    let mut i: usize = 0;
+    while i < nodes {
+        let row = row_at(rows, Node(i));
         if out_of(row).has(j) {
-            found = found.with(Node(k));
+            found = found.with(Node(i));
         }
-        k += 1;
+        i += 1;
     }
     found
 }

@@ -14,10 +14,10 @@ use Rattle.waits.proofs.rows.in_of.Statement.{statement}
 use Rattle.waits.proofs.rows.in_of.Tie as tie
 
 abbrev Inv-loop : tie.InvT-loop
-Inv-loop nodes rows j found₀ k₀ found k = (k ≤ nodes) × (num found ≡ gather (λ i. has (outOf (rowAt rows i)) (j .0)) k)
+Inv-loop nodes rows j found₀ i₀ found i = (i ≤ nodes) × (num found ≡ gather (λ k. has (outOf (rowAt rows k)) (j .0)) i)
 
 abbrev μ-loop : tie.MeasureT-loop
-μ-loop nodes rows j found₀ k₀ found k = nodes - k
+μ-loop nodes rows j found₀ i₀ found i = nodes - i
 
 empty-requires : tie.Need-empty-requires Inv-loop μ-loop
 empty-requires c κs = search needs
@@ -37,8 +37,8 @@ has-requires c κs = search needs
 with-requires : tie.Need-with-requires Inv-loop μ-loop
 with-requires c κs = omega arith
 
-add-k : tie.Need-add-k Inv-loop μ-loop
-add-k c = omega arith
+add-i : tie.Need-add-i Inv-loop μ-loop
+add-i c = omega arith
 
 loop-less : tie.Need-loop-less Inv-loop μ-loop
 loop-less c = omega arith
@@ -48,7 +48,7 @@ loop-again c = (omega arith, ⊎-elim (λ v. ap num (v .2) ∙ v .1 .ensures ∙
 
 returns : tie.Need-returns Inv-loop μ-loop
 unfolding inOf
-returns c = let e : (c .before .loop .k) ≡ (c .before .before .before .before .args .nodes) = omega arith in (c .before .loop .inv .1) ∙ ap (gather (λ i. has (outOf (rowAt (c .before .before .before .before .args .rows .now) i)) (c .before .before .before .before .args .j .0))) e
+returns c = let e : (c .before .loop .i) ≡ (c .before .before .before .before .args .nodes) = omega arith in (c .before .loop .inv .1) ∙ ap (gather (λ i. has (outOf (rowAt (c .before .before .before .before .args .rows .now) i)) (c .before .before .before .before .args .j .0))) e
 
 pub in-of-spec : {M : Type 1} → statement M
 in-of-spec =
@@ -62,7 +62,7 @@ in-of-spec =
     out-of-requires
     has-requires
     with-requires
-    add-k
+    add-i
     loop-less
     loop-again
     returns)
