@@ -41,3 +41,7 @@ flag e h = sym e ∙ h
 -- the arm of a match: f goes by cases, a is the value, b its constructor
 pub in-arm : {A B : Type 0} (f : A → B) {a b : A} {r : B} → a ≡ b → r ≡ f b → r ≡ f a
 in-arm f e h = h ∙ ap f (sym e)
+
+-- a promise that is an equation leaves one result
+pub only-one : {A : Type 0} {x r s : A} → r ≡ x → s ≡ x → r ≡ s
+only-one e f = e ∙ sym f

@@ -1,7 +1,5 @@
 // Graphs, row by row. Sets are written in binary: the last digit is node 0.
 use crate::say::checked;
-use nodes::Node;
-use nodes::Set;
 use waits::ROW;
 
 pub const ACTIVE: [u64; 6] = [0; 6];
@@ -39,14 +37,22 @@ pub fn graph(label: &[u8], nodes: usize, rows: [[u64; 6]; 10]) {
     }
 }
 
+// Eight of the first nine nodes: all but node k, for k from 0 to 8.
+const EIGHT: [u64; 9] = [
+    0b1_1111_1110,
+    0b1_1111_1101,
+    0b1_1111_1011,
+    0b1_1111_0111,
+    0b1_1110_1111,
+    0b1_1101_1111,
+    0b1_1011_1111,
+    0b1_0111_1111,
+    0b0_1111_1111,
+];
+
 // Eight nodes other than k.
 fn eight(k: usize) -> u64 {
-    if k < 8 {
-        let s = Set::below(9).minus(Set::empty().with(Node(k)));
-        return s.0;
-    }
-    let s = Set::below(8);
-    s.0
+    if k < 8 { EIGHT[k] } else { EIGHT[8] }
 }
 
 // 64 nodes that wait on eight others each: 512 edges.
@@ -59,4 +65,12 @@ pub fn eight_each() -> [u64; 384] {
         k += 1;
     }
     rows
+}
+
+// Puts one more row into a graph of 64 nodes, with a line on it.
+pub fn with_row(label: &[u8], rows: [u64; 384], k: usize, row: [u64; 6]) -> [u64; 384] {
+    let mut g = rows;
+    put(&mut g, k, row);
+    checked(label, 64, &g);
+    g
 }

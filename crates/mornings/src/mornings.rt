@@ -4,6 +4,7 @@ use crate::graphs::eight_each;
 use crate::graphs::graph;
 use crate::graphs::one_of;
 use crate::graphs::put;
+use crate::graphs::with_row;
 use crate::say::checked;
 
 // Document 000, figure 1.
@@ -81,8 +82,11 @@ pub fn ninth() {
 pub fn eleventh() {
     checked(b"morning 11, 64 nodes", 64, &[0u64; 384]);
     checked(b"morning 11, 65 nodes", 65, &[0u64; 390]);
-    let mut g = eight_each();
-    checked(b"morning 11, 512 edges", 64, &g);
-    put(&mut g, 63, one_of(0b1_1111_1111));
-    checked(b"morning 11, 513 edges", 64, &g);
+    checked(b"morning 11, 512 edges", 64, &eight_each());
+    with_row(
+        b"morning 11, 513 edges",
+        eight_each(),
+        63,
+        one_of(0b1_1111_1111),
+    );
 }

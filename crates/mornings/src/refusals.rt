@@ -2,6 +2,7 @@
 use crate::graphs::eight_each;
 use crate::graphs::one_of;
 use crate::graphs::put;
+use crate::graphs::with_row;
 use crate::say::answer;
 use crate::say::checked;
 use crate::say::number;
@@ -110,15 +111,19 @@ pub fn counts() {
 
 // The order: rows ascending, each number in order, and number 8 after all rows.
 pub fn order() {
-    let mut g = eight_each();
-    put(&mut g, 63, one_of(0b1_1111_1111));
-    checked(b"513 edges", 64, &g);
-    put(&mut g, 60, [1, 0, 0b1, 0, 0, 0]);
-    checked(b"and a threshold of 0 in row 60", 64, &g);
-    put(&mut g, 40, [2, 0, 0, 0, 0, 0]);
-    checked(b"and no set in row 40", 64, &g);
-    put(&mut g, 41, [3, 0, 0, 0, 0, 0]);
-    checked(b"and kind 3 in row 41", 64, &g);
-    put(&mut g, 40, [3, ALL, ALL, ALL, ALL, ALL]);
-    checked(b"and everything wrong in row 40", 64, &g);
+    let many = with_row(b"513 edges", eight_each(), 63, one_of(0b1_1111_1111));
+    let none = with_row(
+        b"and a threshold of 0 in row 60",
+        many,
+        60,
+        [1, 0, 0b1, 0, 0, 0],
+    );
+    let empty = with_row(b"and no set in row 40", none, 40, [2, 0, 0, 0, 0, 0]);
+    let kind = with_row(b"and kind 3 in row 41", empty, 41, [3, 0, 0, 0, 0, 0]);
+    with_row(
+        b"and everything wrong in row 40",
+        kind,
+        40,
+        [3, ALL, ALL, ALL, ALL, ALL],
+    );
 }

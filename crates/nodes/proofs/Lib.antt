@@ -2,3 +2,4 @@
 pub mod Bit
 pub mod Size
 pub mod Walk
+pub mod Words

@@ -9,8 +9,8 @@ use Rattle.nodes.specs.declared.Smallest.the-variants.{At, Nothing}
 abbrev pub places : ℕ
 places = 64
 
--- the number that a set of the code is
-abbrev pub num : Set → ℕ
+-- the number that a set of the code is: the crates above know no more of a set
+unfoldable pub num : Set → ℕ
 num s = s .0
 
 -- the head of an ascending list of members

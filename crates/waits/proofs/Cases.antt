@@ -52,8 +52,12 @@ threshold-high p s h =
 abbrev pub either : ℕ → ℕ → Bool
 either s t = liesIn s t || liesIn t s
 
+abbrev pub anyTrue : List Bool → Bool
+anyTrue [] = false
+anyTrue (b ∷ l) = b || anyTrue l
+
 six : (p q r s t u : Bool)
-    → ((p || (q || (r || false))) || ((s || (t || false)) || ((u || false) || (false || false)))) ≡ (p || (q || (r || (s || (t || u)))))
+    → ((p || (q || (r || false))) || ((s || (t || false)) || ((u || false) || (false || false)))) ≡ anyTrue (p ∷ q ∷ r ∷ s ∷ t ∷ u ∷ [])
 six true q r s t u = refl
 six false true r s t u = refl
 six false false true s t u = refl
@@ -62,8 +66,10 @@ six false false false false true u = refl
 six false false false false false true = refl
 six false false false false false false = refl
 
-pub nested-four : (a b c d : ℕ)
-    → nested (a ∷ b ∷ c ∷ d ∷ []) ≡ (either a b || (either a c || (either a d || (either b c || (either b d || either c d)))))
+abbrev pub pairs : (a b c d : ℕ) → List Bool
+pairs a b c d = either a b ∷ either a c ∷ either a d ∷ either b c ∷ either b d ∷ either c d ∷ []
+
+pub nested-four : (a b c d : ℕ) → nested (a ∷ b ∷ c ∷ d ∷ []) ≡ anyTrue (pairs a b c d)
 nested-four a b c d = six (either a b) (either a c) (either a d) (either b c) (either b d) (either c d)
 
 -- the edges of one node more

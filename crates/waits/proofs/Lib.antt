@@ -4,3 +4,4 @@ pub mod Table
 pub mod Left
 pub mod Condition
 pub mod Lawful
+pub mod In

@@ -28,7 +28,7 @@ wrongCount n numbers = eqb n 0 || (ltb places n || not (eqb numbers (n * rowSize
 unfoldable pub strangeKind : Row → Bool
 strangeKind r = ltb 2 (r .kind)
 
--- 3: a set has a member that is no node of the graph
+-- 3: a set has a member that is no node of the graph. OUT has the members of every set.
 unfoldable pub strangeMember : ℕ → Row → Bool
 strangeMember n r = not (inside (outOf r) (below n))
 
@@ -43,7 +43,7 @@ wrongThreshold r =
     (not (leb 1 (r .threshold) && leb (r .threshold) (size (num (r .first)))))
     (not (eqb (r .threshold) 0))
 
--- 6: kind 0 with a set, kind 1 with a second, third or fourth set
+-- 6: kind 0 with a set, kind 1 with a second, third or fourth set. A union is empty only if each of its sets is.
 unfoldable pub extraSet : Row → Bool
 extraSet r =
     cond (eqb (r .kind) 0) (not (eqb (outOf r) 0))

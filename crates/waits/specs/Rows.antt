@@ -53,6 +53,6 @@ holdsOf r g =
 abbrev pub waitsOf : ℕ → List ℕ → Waits
 waitsOf n rows = record { nodes = n; out = λ k. outOf (rowAt rows k); holds = λ k g. holdsOf (rowAt rows k) g }
 
--- as many nodes as a set has places for, and a row for each: what number 1 asks
+-- no more nodes than a set has places for, and a row for each
 abbrev pub Shaped : ℕ → List ℕ → Type 0
 Shaped n rows = (n ≤ places) × (length rows ≡ n * rowSize)

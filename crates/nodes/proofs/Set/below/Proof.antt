@@ -5,12 +5,13 @@ use native.Mathlib.Omega.{arith}
 use lib.Pow.{pow-pos}
 use borrow.Author.Needs.{needs}
 use Rattle.nodes.specs.Sets.{below}
+use Rattle.nodes.specs.Words.{num}
 use Rattle.nodes.proofs.Bit.{shl-one}
 use Rattle.nodes.proofs.Set.below.Statement.{statement}
 use Rattle.nodes.proofs.Set.below.Tie as tie
 
 returns : tie.Need-returns
-unfolding below
+unfolding below num
 returns c = sym (ap below (c .if1 .taken))
 
 shl-t4 : tie.Need-shl-t4
@@ -20,7 +21,7 @@ sub-t5 : tie.Need-sub-t5
 sub-t5 c = let h : (c .before .args .n) < 64 = omega arith in omega (arith, shl-one 64 (c .before .args .n) h, pow-pos (c .before .args .n))
 
 returns-2 : tie.Need-returns-2
-unfolding below
+unfolding below num
 returns-2 c = let h : (c .before .args .n) < 64 = omega arith in ap (λ (x : ℕ). x - 1) (shl-one 64 (c .before .args .n) h)
 
 pub below-spec : {M : Type 1} → statement M

@@ -2,6 +2,7 @@
 use mathlib.Core.Path.{refl}
 use borrow.Author.Needs.{needs}
 use Rattle.nodes.specs.Sets.{bit}
+use Rattle.nodes.specs.Words.{num}
 use Rattle.nodes.proofs.Set.digit.Statement.{statement}
 use Rattle.nodes.proofs.Set.digit.Tie as tie
 
@@ -9,7 +10,7 @@ shr-result : tie.Need-shr-result
 shr-result c = search needs
 
 returns : tie.Need-returns
-unfolding bit
+unfolding bit num
 returns c = refl
 
 pub digit-spec : {M : Type 1} → statement M

@@ -4,11 +4,13 @@ use Prim.Native.Nat.{ℕ}
 use native.Mathlib.Omega.{arith}
 use lib.Dec.{eqb}
 use borrow.Author.Needs.{needs}
+use Rattle.nodes.specs.Words.{num}
 use Rattle.nodes.proofs.Bit.{out-has, bit-above, has-bit}
 use Rattle.nodes.proofs.Set.has.Statement.{statement}
 use Rattle.nodes.proofs.Set.has.Tie as tie
 
 returns : tie.Need-returns
+unfolding num
 returns c = sym (out-has _ _ (bit-above 64 _ _ (omega arith) (omega arith)))
 
 digit-requires : tie.Need-digit-requires

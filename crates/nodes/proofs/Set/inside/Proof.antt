@@ -39,6 +39,7 @@ loop-again : tie.Need-loop-again Inv-loop μ-loop
 loop-again c = (search needs, below-more _ _ (c .before .before .before .before .loop .inv .1) (omega arith))
 
 returns-2 : tie.Need-returns-2 Inv-loop μ-loop
+unfolding num
 returns-2 c = let e : (c .before .loop .k) ≡ 64 = omega arith in sym (inside-all 64 _ _ (omega arith) (λ j h. (c .before .loop .inv .1) j (omega arith)))
 
 pub inside-spec : {M : Type 1} → statement M

@@ -24,6 +24,7 @@ digit-requires : tie.Need-digit-requires Inv-loop μ-loop
 digit-requires c κs = search needs
 
 add-count : tie.Need-add-count Inv-loop μ-loop
+unfolding num
 add-count c = omega (arith, size-below (c .before .before .before .args .self .0) (c .before .before .loop .k), bit-le (c .before .before .before .args .self .0) (c .before .before .loop .k))
 
 add-k : tie.Need-add-k Inv-loop μ-loop
@@ -33,9 +34,11 @@ loop-less : tie.Need-loop-less Inv-loop μ-loop
 loop-less c = search needs
 
 loop-again : tie.Need-loop-again Inv-loop μ-loop
+unfolding num
 loop-again c = (search needs, omega (arith, size-suc (c .before .before .before .args .self .0) (c .before .before .loop .k)))
 
 returns : tie.Need-returns Inv-loop μ-loop
+unfolding num
 returns c =
     let n = c .before .before .args .self .0 in
     let e : c .before .loop .k ≡ 64 = omega arith in

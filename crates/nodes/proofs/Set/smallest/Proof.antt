@@ -31,9 +31,11 @@ loop-less : tie.Need-loop-less Inv-loop μ-loop
 loop-less c = search needs
 
 loop-again : tie.Need-loop-again Inv-loop μ-loop
+unfolding num
 loop-again c = (search needs, none-yet _ _ (c .before .before .before .loop .inv .1) (omega (arith, bit-le (c .before .before .before .before .args .self .0) (c .before .before .before .loop .k))))
 
 returns-2 : tie.Need-returns-2 Inv-loop μ-loop
+unfolding num
 returns-2 c = let e : (c .before .loop .k) ≡ 64 = omega arith in nothing 64 _ (omega arith) (ap (λ (x : ℕ). (c .before .before .args .self .0) % 2 ^ x) (sym e) ∙ (c .before .loop .inv .1))
 
 pub smallest-spec : {M : Type 1} → statement M

@@ -3,6 +3,7 @@ use mathlib.Core.Path.{ap}
 use lib.Bits.{bitOr}
 use borrow.Author.Needs.{needs}
 use Rattle.nodes.specs.Sets.{union, single, with}
+use Rattle.nodes.specs.Words.{num}
 use Rattle.nodes.proofs.Bit.{shl-one}
 use Rattle.nodes.proofs.Set.with.Statement.{statement}
 use Rattle.nodes.proofs.Set.with.Tie as tie
@@ -11,7 +12,7 @@ shl-t5 : tie.Need-shl-t5
 shl-t5 c = search needs
 
 returns : tie.Need-returns
-unfolding with union single
+unfolding with union single num
 returns c = ap (bitOr (c .before .args .self .0)) (shl-one 64 (c .before .args .k .0) (c .before .pre))
 
 pub with-spec : {M : Type 1} → statement M

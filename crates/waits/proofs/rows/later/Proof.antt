@@ -2,6 +2,7 @@
 use mathlib.Core.Path.{ap, _∙_}
 use borrow.Author.Needs.{needs}
 use Rattle.nodes.specs.Sets.{union}
+use Rattle.nodes.specs.Words.{num}
 use Rattle.waits.specs.Rows.{laterOf}
 use Rattle.waits.proofs.rows.later.Statement.{statement}
 use Rattle.waits.proofs.rows.later.Tie as tie
@@ -14,7 +15,7 @@ union-requires-2 c κs = search needs
 
 returns : tie.Need-returns
 unfolding laterOf
-returns c = (c .union2 .ensures) ∙ ap (union (c .before .before .before .before .before .args .row .second .0)) (c .before .union .ensures)
+returns c = (c .union2 .ensures) ∙ ap (union (num (c .before .before .before .before .before .args .row .second))) (c .before .union .ensures)
 
 pub later-spec : {M : Type 1} → statement M
 later-spec = tie.close (tie.spec union-requires union-requires-2 returns)
