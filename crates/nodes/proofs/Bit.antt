@@ -5,13 +5,13 @@ use mathlib.Core.Logic.{_⊎_, inl, inr, ⊎-elim, _↔_}
 use mathlib.Core.List.{List, [], _∷_, List·Memᴰ}
 use mathlib.Core.List.List·Memᴰ.{List·Memᴰ·head as here, List·Memᴰ·tail as there}
 use Prim.Native.Nat.{ℕ, zero, suc, _+_, _-_, _*_, _/_, _%_, _^_, _≤_, _<_, zero-le, suc-le-suc, min, max}
-use native.Mathlib.Nat.{mod-lt, zero-lt-suc, div-one, le-of-suc-le-suc, not-suc-le-zero, div-add-mod', pow-suc, one-mul, div-eq-of-lt, le-dest, lt-of-lt-of-le, lt-suc-self, eq-or-lt-of-le, le-refl, le-trans, mul-mod-left}
+use native.Mathlib.Nat.{mod-lt, zero-lt-suc, div-one, le-of-suc-le-suc, not-suc-le-zero, div-add-mod', pow-suc, one-mul, div-eq-of-lt, le-dest, lt-of-lt-of-le, lt-of-le-of-lt, lt-suc-self, eq-or-lt-of-le, le-refl, le-trans, mul-mod-left}
 use native.Mathlib.Omega.{arith}
 use native.Mathlib.Numerals.{add-one, one-add}
 use native.Mathlib.Decide.{decLt, ℕ-discrete}
 use lib.Dec.{eqb, lit<}
 use lib.Arith.{lt-one, digits-mod}
-use lib.Pow.{pow-pos, pow-add, shr-shr, pow-lt, shl-shr, shr-lt, pow-mono, field, mod-mod-pow, ones-lt, shl-exact}
+use lib.Pow.{pow-pos, pow-add, shr-shr, pow-lt, shl-shr, shr-lt, pow-mono, field, mod-mod-pow, ones-lt, shl-exact, high, low}
 use lib.Bits.{bitAnd, bitOr, bitXor, differ, and-shr, or-shr, xor-shr, and-step, or-step, xor-step, or-lt, and-le-l}
 use borrow.Author.Tests.{eqb-true, eq-eqb}
 use Rattle.lemmas.proofs.Tests.{not-true-false, not-both}
@@ -159,7 +159,7 @@ in-minus a b k = (
 
 pub meet-lt : (w a b : ℕ) → a < 2 ^ w → meet a b < 2 ^ w
 unfolding meet
-meet-lt w a b h = native.Mathlib.Nat.lt-of-le-of-lt (and-le-l a b) h
+meet-lt w a b h = lt-of-le-of-lt (and-le-l a b) h
 
 pub union-lt : (w a b : ℕ) → a < 2 ^ w → b < 2 ^ w → union a b < 2 ^ w
 unfolding union
@@ -221,10 +221,10 @@ unfolding below
 below-lt n = ones-lt n
 
 -- the highest digit over a lower part of n digits
-top-digit : (n lo k : ℕ) → lo < 2 ^ n → bit (2 ^ n + lo) n ≡ 1
+top-digit : (n lo : ℕ) → lo < 2 ^ n → bit (2 ^ n + lo) n ≡ 1
 unfolding bit
-top-digit n lo k h =
-    ap (λ (x : ℕ). x % 2) (ap (λ (x : ℕ). (x + lo) / 2 ^ n) (sym (one-mul (2 ^ n))) ∙ lib.Pow.high 1 n h)
+top-digit n lo h =
+    ap (λ (x : ℕ). x % 2) (ap (λ (x : ℕ). (x + lo) / 2 ^ n) (sym (one-mul (2 ^ n))) ∙ high 1 n h)
 
 pub bit-below : (n k : ℕ) → k < n → bit (below n) k ≡ 1
 unfolding below
@@ -234,9 +234,9 @@ bit-below (suc n) k h =
     let e : 2 ^ suc n - 1 ≡ 2 ^ n + (2 ^ n - 1) = omega (arith, pow-suc 2 n) in
     let ih = bit-below n k in
     ⊎-elim
-    (λ (q : k ≡ n). ap₂ bit e q ∙ top-digit n (2 ^ n - 1) n (ones-lt n))
+    (λ (q : k ≡ n). ap₂ bit e q ∙ top-digit n (2 ^ n - 1) (ones-lt n))
     (λ (q : k < n). ap (λ (x : ℕ). bit x k) e ∙ sym (bit-mod n (2 ^ n + (2 ^ n - 1)) k q)
-    ∙ ap (λ (x : ℕ). bit x k) (ap (λ (x : ℕ). (x + (2 ^ n - 1)) % 2 ^ n) (sym (one-mul (2 ^ n))) ∙ lib.Pow.low 1 n (ones-lt n)) ∙ ih q)
+    ∙ ap (λ (x : ℕ). bit x k) (ap (λ (x : ℕ). (x + (2 ^ n - 1)) % 2 ^ n) (sym (one-mul (2 ^ n))) ∙ low 1 n (ones-lt n)) ∙ ih q)
     (eq-or-lt-of-le (le-of-suc-le-suc h))
 
 pub in-below : (n k : ℕ) → In k (below n) ↔ (k < n)

@@ -5,7 +5,7 @@ use mathlib.Core.Logic.{⊎-elim, _↔_}
 use mathlib.Core.List.{List, [], _++_, append-assoc, append-nil, List·Memᴰ, List·Memᴰ·append-cases, List·Memᴰ·eq-of-singleton, Memᴰ·append-left, Memᴰ·append-right}
 use mathlib.Core.List.List·Memᴰ.{List·Memᴰ·head as here}
 use Prim.Native.Nat.{ℕ, zero, suc, _+_, _*_, _/_, _%_, _^_, _≤_, _<_, min, max}
-use native.Mathlib.Nat.{le-refl, not-suc-le-zero, add-zero, add-suc, suc-add, mul-one, one-mul, mod-lt, eq-or-lt-of-le, le-of-suc-le-suc, mod-eq-of-lt}
+use native.Mathlib.Nat.{le-refl, not-suc-le-zero, add-zero, add-suc, suc-add, mul-one, one-mul, mod-lt, eq-or-lt-of-le, le-of-suc-le-suc, mod-eq-of-lt, add-comm, zero-add}
 use native.Mathlib.Omega.{arith}
 use native.Mathlib.Numerals.{add-one}
 use native.Mathlib.Decide.{le-ind, ℕ-discrete}
@@ -71,10 +71,10 @@ pub members-suc : (s k : ℕ) → members (s % 2 ^ (k + 1)) ≡ members (s % 2 ^
 unfolding bit has
 members-suc s k =
     members-from (s % 2 ^ (k + 1))
-    ∙ ap (from 0) (ap (λ (x : ℕ). s % 2 ^ x) (native.Mathlib.Nat.add-comm k 1) ∙ mod-pow-add s 1 k)
+    ∙ ap (from 0) (ap (λ (x : ℕ). s % 2 ^ x) (add-comm k 1) ∙ mod-pow-add s 1 k)
     ∙ from-cat k 0 (s / 2 ^ k % 2) (s % 2 ^ k) (mod-lt s (pow-pos k))
     ∙ ap₂ (λ (l m : List ℕ). l ++ m) (sym (members-from (s % 2 ^ k)))
-    (ap (λ (x : ℕ). from x (s / 2 ^ k % 2)) (native.Mathlib.Nat.zero-add k) ∙ from-digit (s / 2 ^ k % 2) k (bit-le s k))
+    (ap (λ (x : ℕ). from x (s / 2 ^ k % 2)) (zero-add k) ∙ from-digit (s / 2 ^ k % 2) k (bit-le s k))
 
 pub members-none : (s : ℕ) → members (s % 2 ^ 0) ≡ []
 members-none s = ap members (lt-one (mod-lt s (pow-pos 0))) ∙ members-from 0 ∙ from-none 0

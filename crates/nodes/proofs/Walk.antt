@@ -3,7 +3,7 @@ use mathlib.Core.Path.{_≡_, sym, ap, ap₂, _∙_}
 use mathlib.Core.Bool.{true}
 use mathlib.Core.List.{List, _++_}
 use Prim.Native.Nat.{ℕ, suc, _+_, _*_, _/_, _%_, _^_, _≤_, _<_}
-use native.Mathlib.Nat.{add-zero, mod-lt, mod-eq-of-lt, zero-mul, zero-add}
+use native.Mathlib.Nat.{add-zero, mod-lt, mod-eq-of-lt, zero-mul, zero-add, add-comm}
 use native.Mathlib.Omega.{arith}
 use native.Mathlib.Decide.{decLt}
 use lib.Dec.{eqb}
@@ -23,7 +23,7 @@ inside-all w a b h f = of-inside a b (λ k. elim (decLt k w) [ yes l ↦ f k l |
 pub none-yet : (s k : ℕ) → s % 2 ^ k ≡ 0 → bit s k ≡ 0 → s % 2 ^ (k + 1) ≡ 0
 unfolding bit
 none-yet s k e z =
-    ap (λ (x : ℕ). s % 2 ^ x) (native.Mathlib.Nat.add-comm k 1) ∙ mod-pow-add s 1 k
+    ap (λ (x : ℕ). s % 2 ^ x) (add-comm k 1) ∙ mod-pow-add s 1 k
     ∙ ap₂ (λ (x y : ℕ). x * 2 ^ k + y) z e ∙ add-zero (0 * 2 ^ k) ∙ zero-mul (2 ^ k)
 
 pub none-at-first : (s : ℕ) → s % 2 ^ 0 ≡ 0

@@ -9,11 +9,11 @@ use native.Mathlib.Nat.{le-trans}
 use lib.Dec.{leb, eqb}
 use borrow.Author.Tests.{leb-true, le-leb}
 use Rattle.lemmas.specs.Lists.{anyOf}
-use Rattle.lemmas.proofs.Tests.{cond-mono, and-intro, and-left, and-right, same-test, not-true-false}
+use Rattle.lemmas.proofs.Tests.{cond-mono, and-intro, and-left, and-right, same-test, not-true-false, not-both}
 use Rattle.lemmas.proofs.Lists.{any-some, some-any}
 use Rattle.nodes.specs.Sets.{bit, In, union, meet, inside, size}
 use Rattle.nodes.specs.Words.{num}
-use Rattle.nodes.proofs.Bit.{in-union, in-meet, inside-in, inside-of, of-inside, inside-empty}
+use Rattle.nodes.proofs.Bit.{in-union, in-meet, inside-in, inside-of, of-inside, inside-member, inside-empty}
 use Rattle.nodes.proofs.Size.{size-mono}
 use Rattle.waits.specs.declared.rows.Row.{Row}
 use Rattle.waits.specs.Rows.{setsOf, laterOf, outOf, liesIn, holdsOf}
@@ -65,7 +65,7 @@ module _ (r : Row) (g h : ℕ) (f : (j : ℕ) → In j (outOf r) → In j g → 
   unfolding liesIn
   more-lies q m e =
       and-intro (not (eqb q 0)) (inside q h) (and-left (not (eqb q 0)) (inside q g) e)
-      (of-inside q h (inside-in q h (λ k i. f k (out-set r q k m i) (Rattle.nodes.proofs.Bit.inside-member q g k (inside-of q g (and-right (not (eqb q 0)) (inside q g) e)) i))))
+      (of-inside q h (inside-in q h (λ k i. f k (out-set r q k m i) (inside-member q g k (inside-of q g (and-right (not (eqb q 0)) (inside q g) e)) i))))
 
   more-sets : anyOf (λ q. liesIn q g) (setsOf r) ≡ true → anyOf (λ q. liesIn q h) (setsOf r) ≡ true
   more-sets e = let s = any-some (λ q. liesIn q g) (setsOf r) e in some-any (λ q. liesIn q h) (setsOf r) (s .0) (s .1) (more-lies (s .0) (s .1) (s .2))
@@ -87,4 +87,4 @@ lies-in-empty q =
     (λ e.
     let none : q ≡ 0 = inside-empty q (inside-of q 0 (and-right (not (eqb q 0)) (inside q 0) e)) in
     let z : not (eqb q 0) ≡ false = ap (λ (x : ℕ). not (eqb x 0)) none in
-    Rattle.lemmas.proofs.Tests.not-both (and-left (not (eqb q 0)) (inside q 0) e) z)
+    not-both (and-left (not (eqb q 0)) (inside q 0) e) z)

@@ -1,3 +1,4 @@
+-- `Set::empty` meets its contract. Assumes nothing.
 use mathlib.Core.Path.{refl}
 use Rattle.nodes.specs.Words.{num}
 use Rattle.nodes.proofs.Set.empty.Statement.{statement}

@@ -1,3 +1,4 @@
+-- `Set::is_empty` meets its contract. Assumes nothing.
 use mathlib.Core.Path.{refl}
 use Rattle.nodes.specs.Words.{num}
 use Rattle.nodes.proofs.Set.is_empty.Statement.{statement}
