@@ -20,30 +20,30 @@ use Rattle.waits.specs.Rows.{rowSize, rowAt, setsOf, laterOf, outOf, lie
 abbrev pub mostEdges : ℕ
 mostEdges = 512
 
--- 1: 0 or over 64 nodes, or row numbers aren't 6 per node
+-- 1: there is no node, there are more than a set has places for, or not six numbers to each
 unfoldable pub wrongCount : ℕ → ℕ → Bool
 wrongCount n numbers = eqb n 0 || (ltb places n || not (eqb numbers (n * rowSize)))
 
--- 2: kind above 2
+-- 2: there is no such kind
 unfoldable pub strangeKind : Row → Bool
 strangeKind r = ltb 2 (r .kind)
 
--- 3: a set has a member that is no node of the graph. OUT has the members of every set.
+-- 3: a set names something that is no node. OUT has the members of every set.
 unfoldable pub strangeMember : ℕ → Row → Bool
 strangeMember n r = not (inside (outOf r) (below n))
 
--- 4: a node waits on itself
+-- 4: the node waits on itself
 unfoldable pub waitsOnItself : ℕ → Row → Bool
 waitsOnItself k r = has (outOf r) k
 
--- 5: threshold not as its kind says: 1 to the size of the first set for kind 1, and 0 for the others
+-- 5: the threshold isn't what the kind asks: 1 to the size of the first set for kind 1, 0 for the others
 unfoldable pub wrongThreshold : Row → Bool
 wrongThreshold r =
     cond (eqb (r .kind) 1)
     (not (leb 1 (r .threshold) && leb (r .threshold) (size (num (r .first)))))
     (not (eqb (r .threshold) 0))
 
--- 6: kind 0 with a set, kind 1 with a second, third or fourth set. A union is empty only if each of its sets is.
+-- 6: a set where the kind has none: any at kind 0, any but the first at kind 1. A union is empty only if each of its sets is.
 unfoldable pub extraSet : Row → Bool
 extraSet r =
     cond (eqb (r .kind) 0) (not (eqb (outOf r) 0))
@@ -55,11 +55,11 @@ abbrev pub nested : List ℕ → Bool
 nested [] = false
 nested (s ∷ l) = anyOf (λ t. liesIn s t || liesIn t s) l || nested l
 
--- 7: kind 2 with no nonempty set, or one nonempty set inside another
+-- 7: kind 2 has nothing to wait for, or a nonempty set that lies inside another
 unfoldable pub badSets : Row → Bool
 badSets r = eqb (r .kind) 2 && (eqb (outOf r) 0 || nested (setsOf r))
 
--- 8: over 512 edges
+-- 8: there are too many edges
 unfoldable pub manyEdges : ℕ → List ℕ → Bool
 manyEdges n rows = ltb mostEdges (edges (waitsOf n rows))
 
