@@ -41,24 +41,23 @@ silent-accepted (l ∷ ls) h =
     ap (λ (b : Bool). cond b (Refused (l .gives)) (firstSaid ls)) (h l (here refl))
     ∙ silent-accepted ls (λ m i. h m (there i))
 
+silent-cons : (l : Line) (ls : List Line) → l .says ≡ false → Silent ls → Silent (l ∷ ls)
+silent-cons l ls e h m (here p) = ap (λ (x : Line). x .says) p ∙ e
+silent-cons l ls e h m (there i) = h m i
+
 pub accepted-silent : (ls : List Line) → firstSaid ls ≡ Accepted → Silent ls
-accepted-silent [] e m i = elim i [ ]
-accepted-silent (l ∷ ls) e m i = go (l .says) refl e (accepted-silent ls) i
+accepted-silent [] e = λ m i. elim i [ ]
+accepted-silent (l ∷ ls) e = go (l .says) refl e (accepted-silent ls)
   where
-    go : (b : Bool) → l .says ≡ b → cond b (Refused (l .gives)) (firstSaid ls) ≡ Accepted → (firstSaid ls ≡ Accepted → Silent ls) → List·Memᴰ m (l ∷ ls) → m .says ≡ false
-    go true q e ih i = absurd (refused-not-accepted e)
-    go false q e ih (here p) = ap (λ (x : Line). x .says) p ∙ q
-    go false q e ih (there i) = ih e m i
+    go : (b : Bool) → l .says ≡ b → cond b (Refused (l .gives)) (firstSaid ls) ≡ Accepted → (firstSaid ls ≡ Accepted → Silent ls) → Silent (l ∷ ls)
+    go true q e ih = absurd (refused-not-accepted e)
+    go false q e ih = silent-cons l ls q (ih e)
 
 pub check-accepted : (n : ℕ) (rows : List ℕ) → (checkOf n rows ≡ Accepted) ↔ Silent (graphLines n rows)
 unfolding checkOf
 check-accepted n rows = (accepted-silent (graphLines n rows), silent-accepted (graphLines n rows))
 
 -- ---- refused exactly with the first line that says so
-silent-cons : (l : Line) (ls : List Line) → l .says ≡ false → Silent ls → Silent (l ∷ ls)
-silent-cons l ls e h m (here p) = ap (λ (x : Line). x .says) p ∙ e
-silent-cons l ls e h m (there i) = h m i
-
 said-gives : (ls : List Line) (r : Refusal) → firstSaid ls ≡ Refused r → Gives ls r
 said-gives [] r e = absurd (refused-not-accepted (sym e))
 said-gives (l ∷ ls) r e = go (l .says) refl e (said-gives ls r)

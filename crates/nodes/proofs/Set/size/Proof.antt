@@ -25,7 +25,9 @@ digit-requires c κs = search needs
 
 add-count : tie.Need-add-count Inv-loop μ-loop
 unfolding num
-add-count c = omega (arith, size-below (c .before .before .before .args .self .0) (c .before .before .loop .k), bit-le (c .before .before .before .args .self .0) (c .before .before .loop .k))
+add-count c =
+    let few : c .digit .result ≤ 1 = rw (c .digit .ensures) (bit-le _ _) in
+    omega (arith, size-below (c .before .before .before .args .self .0) (c .before .before .loop .k))
 
 add-k : tie.Need-add-k Inv-loop μ-loop
 add-k c = search needs

@@ -12,13 +12,13 @@ use Rattle.waits.proofs.rows.edges.Statement.{statement}
 use Rattle.waits.proofs.rows.edges.Tie as tie
 
 abbrev Inv-loop : tie.InvT-loop
-Inv-loop nodes rows count₀ k₀ count k = (k ≤ nodes) × (count ≤ k * places) × (count ≡ edgesTo (waitsOf nodes rows) k)
+Inv-loop nodes rows count₀ k₀ count k = (k ≤ nodes) × (count ≡ edgesTo (waitsOf nodes rows) k) × (count ≤ k * places)
 
 abbrev μ-loop : tie.MeasureT-loop
 μ-loop nodes rows count₀ k₀ count k = nodes - k
 
 loop-holds : tie.Need-loop-holds Inv-loop μ-loop
-loop-holds c = (search needs, search needs, sym (edges-none _))
+loop-holds c = (search needs, sym (edges-none _), search needs)
 
 row-at-requires : tie.Need-row-at-requires Inv-loop μ-loop
 row-at-requires c κs = omega arith
@@ -39,11 +39,11 @@ loop-less : tie.Need-loop-less Inv-loop μ-loop
 loop-less c = omega arith
 
 loop-again : tie.Need-loop-again Inv-loop μ-loop
-loop-again c = (omega arith, omega arith, omega (arith, edges-suc (waitsOf (c .before .before .before .before .before .before .args .nodes) (c .before .before .before .before .before .before .args .rows .now)) (c .before .before .before .before .loop .k), ap size ((c .before .out-of .ensures) ∙ ap outOf (c .before .before .row-at .ensures))))
+loop-again c = (omega arith, omega (arith, edges-suc (waitsOf (c .before .before .before .before .before .before .args .nodes) (c .before .before .before .before .before .before .args .rows .now)) (c .before .before .before .before .loop .k), ap size ((c .before .out-of .ensures) ∙ ap outOf (c .before .before .row-at .ensures))), omega arith)
 
 returns : tie.Need-returns Inv-loop μ-loop
 unfolding edges
-returns c = let e : (c .before .loop .k) ≡ (c .before .before .before .args .nodes) = omega arith in (c .before .loop .inv .2) ∙ ap (edgesTo (waitsOf (c .before .before .before .args .nodes) (c .before .before .before .args .rows .now))) e
+returns c = let e : (c .before .loop .k) ≡ (c .before .before .before .args .nodes) = omega arith in (c .before .loop .inv .1) ∙ ap (edgesTo (waitsOf (c .before .before .before .args .nodes) (c .before .before .before .args .rows .now))) e
 
 pub edges-spec : {M : Type 1} → statement M
 edges-spec =
