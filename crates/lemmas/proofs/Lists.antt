@@ -1,13 +1,17 @@
 -- Lists of numbers: a test of some member, and order. Assumes nothing.
-use mathlib.Core.Path.{_≡_, refl}
-use mathlib.Core.Bool.{Bool, true, false≢true}
-use mathlib.Core.Logic.{⊎-elim}
+use mathlib.Core.Path.{_≡_, refl, sym, ap, ap₂, _∙_}
+use mathlib.Core.Bool.{Bool, true, false, _||_, false≢true}
+use mathlib.Core.Logic.{⊎-elim, _↔_}
 use mathlib.Core.List.{List, [], _∷_, _++_, List·Memᴰ, List·Memᴰ·append-cases, List·Memᴰ·eq-of-singleton}
 use mathlib.Core.List.List·Memᴰ.{List·Memᴰ·head as here, List·Memᴰ·tail as there}
-use Prim.Native.Nat.{ℕ, _<_}
+use Prim.Native.Nat.{ℕ, zero, suc, _+_, _≤_, _<_}
+use native.Mathlib.Nat.{not-suc-le-zero, le-of-suc-le-suc}
+use native.Mathlib.Numerals.{add-one}
 use native.Mathlib.Omega.{arith}
+use lib.ListN.{length, getD, drop, drop-of-length-le}
+use lib.Seq.{drop-cons}
 use Rattle.lemmas.specs.Lists.{anyOf, Ascending}
-use Rattle.lemmas.proofs.Tests.{or-cases, or-intro-left, or-intro-right}
+use Rattle.lemmas.proofs.Tests.{or-left-false, or-right-false, or-cases, or-intro-left, or-intro-right}
 
 -- ---- a test of some member
 pub any-some : (p : ℕ → Bool) (l : List ℕ) → anyOf p l ≡ true → (x : ℕ) × List·Memᴰ x l × (p x ≡ true)
@@ -23,6 +27,29 @@ pub some-any : (p : ℕ → Bool) (l : List ℕ) (x : ℕ) → List·Memᴰ x l 
 some-any p (a ∷ l) x (here e) h = or-intro-left (p a) (anyOf p l) (rw e at h)
 some-any p (a ∷ l) x (there m) h = or-intro-right (p a) (anyOf p l) (some-any p l x m h)
 
+-- no number of the list meets it, so the one at a place doesn't
+pub none-at : (p : ℕ → Bool) (l : List ℕ) (at : ℕ) → at < length l → anyOf p l ≡ false → p (getD l at 0) ≡ false
+none-at p [] at h e = absurd (not-suc-le-zero h)
+none-at p (a ∷ l) zero h e = or-left-false (p a) (anyOf p l) e
+none-at p (a ∷ l) (suc at) h e = none-at p l at (le-of-suc-le-suc h) (or-right-false (p a) (anyOf p l) e)
+
+-- ---- a walk that tests one number after another: the answer is that of the numbers from a place on
+abbrev pub AnyLeft : (ℕ → Bool) → List ℕ → ℕ → Type 0
+AnyLeft p l at = anyOf p l ≡ anyOf p (drop at l)
+
+module _ (p : ℕ → Bool) (l : List ℕ) (at : ℕ) (left : AnyLeft p l at) where
+  any-next : at < length l → anyOf p l ≡ (p (getD l at 0) || anyOf p (drop (suc at) l))
+  any-next h = left ∙ ap (anyOf p) (drop-cons l at 0 h)
+
+  pub any-passed : at < length l → p (getD l at 0) ≡ false → AnyLeft p l (at + 1)
+  any-passed h e = rw (add-one at) (any-next h ∙ ap (λ (b : Bool). b || anyOf p (drop (suc at) l)) e)
+
+  pub any-found : at < length l → p (getD l at 0) ≡ true → true ≡ anyOf p l
+  any-found h e = sym (any-next h ∙ ap (λ (b : Bool). b || anyOf p (drop (suc at) l)) e)
+
+  pub any-ended : length l ≤ at → false ≡ anyOf p l
+  any-ended h = sym (left ∙ ap (anyOf p) (drop-of-length-le l h))
+
 -- ---- order
 
 -- one number more at the end, above all the others
@@ -32,3 +59,24 @@ ascending-snoc (x ∷ l) k h a = (
   λ b m. ⊎-elim (λ (n : List·Memᴰ b l). a .0 b n) (λ (n : List·Memᴰ b (k ∷ [])). let e = List·Memᴰ·eq-of-singleton n in let q = h x (here refl) in omega arith) (List·Memᴰ·append-cases l m),
   ascending-snoc l k (λ b m. h b (there m)) (a .1),
 )
+
+-- an ascending list is determined by its members
+pub ascending-unique : (l m : List ℕ) → Ascending l → Ascending m → ((x : ℕ) → List·Memᴰ x l ↔ List·Memᴰ x m) → l ≡ m
+ascending-unique [] [] a b f = refl
+ascending-unique [] (y ∷ m) a b f = absurd (elim (f y .1 (here refl)) [ ])
+ascending-unique (x ∷ l) [] a b f = absurd (elim (f x .0 (here refl)) [ ])
+ascending-unique (x ∷ l) (y ∷ m) a b f =
+    let q : x ≡ y = first (f x .0 (here refl)) (f y .1 (here refl)) in
+    ap₂ (λ (z : ℕ) (r : List ℕ). z ∷ r) q (ascending-unique l m (a .1) (b .1) (λ z. (
+      λ i. rest z (λ e. let h = a .0 z i in omega arith) (f z .0 (there i)),
+      λ i. rest z (λ e. let h = b .0 z i in omega arith) (f z .1 (there i)),
+    )))
+  where
+    first : List·Memᴰ x (y ∷ m) → List·Memᴰ y (x ∷ l) → x ≡ y
+    first (here e) j = e
+    first (there i) (here e) = sym e
+    first (there i) (there j) = absurd (let h = b .0 x i in let k = a .0 y j in omega arith)
+
+    rest : {y : ℕ} {m : List ℕ} (z : ℕ) → (z ≡ y → ⊥) → List·Memᴰ z (y ∷ m) → List·Memᴰ z m
+    rest z n (here e) = absurd (n e)
+    rest z n (there i) = i

@@ -1,8 +1,8 @@
 -- Membership after each operation, and when two sets are equal: for every width. Assumes nothing.
-use mathlib.Core.Path.{_≡_, refl, sym, ap, ap₂, _∙_}
+use mathlib.Core.Path.{_≡_, refl, sym, ap, ap₂, _∙_, subst}
 use mathlib.Core.Bool.{Bool, true, false}
 use mathlib.Core.Logic.{_⊎_, inl, inr, ⊎-elim, _↔_}
-use mathlib.Core.List.{List, [], _∷_, List·Memᴰ}
+use mathlib.Core.List.{List, [], _∷_, _++_, List·Memᴰ, List·Memᴰ·append-cases, List·Memᴰ·eq-of-singleton, Memᴰ·append-left, Memᴰ·append-right}
 use mathlib.Core.List.List·Memᴰ.{List·Memᴰ·head as here, List·Memᴰ·tail as there}
 use Prim.Native.Nat.{ℕ, zero, suc, _+_, _-_, _*_, _/_, _%_, _^_, _≤_, _<_, zero-le, suc-le-suc, min, max}
 use native.Mathlib.Nat.{mod-lt, zero-lt-suc, div-one, le-of-suc-le-suc, not-suc-le-zero, div-add-mod', pow-suc, one-mul, div-eq-of-lt, le-dest, lt-of-lt-of-le, lt-of-le-of-lt, lt-suc-self, eq-or-lt-of-le, le-refl, le-trans, mul-mod-left}
@@ -260,11 +260,30 @@ inside-member a b k h i = omega (arith, h k, bit-le b k)
 pub inside-trans : (a b c : ℕ) → Inside a b → Inside b c → Inside a c
 inside-trans a b c f g k = le-trans (f k) (g k)
 
+pub inside-both : (a b : ℕ) → Inside a b → Inside b a → a ≡ b
+inside-both a b f g = same a b (λ k. omega (arith, f k, g k))
+
+-- nobody but nodes below n
+pub inside-lt : (n s : ℕ) → Inside s (below n) → s < 2 ^ n
+inside-lt n s h =
+    let e : s % 2 ^ n ≡ s = same _ s (λ k. elim (decLt k n) [
+      | yes l ↦ bit-mod n s k l
+      | no l ↦ omega (arith, bit-above n (s % 2 ^ n) k (mod-lt s (pow-pos n)) (omega arith), bit-above n (below n) k (below-lt n) (omega arith), h k)
+    ]) in
+    subst (λ (x : ℕ). x < 2 ^ n) e (mod-lt s (pow-pos n))
+
+pub minus-none : (a b : ℕ) → minus a b ≡ 0 → Inside a b
+minus-none a b e k = omega (arith, bit-minus a b k, ap (λ (x : ℕ). bit x k) e, bit-empty k)
+
 pub inside-empty : (a : ℕ) → Inside a 0 → a ≡ 0
 inside-empty a h = empty-same a (λ k. omega (arith, h k, bit-empty k))
 
 pub not-inside : (a b k : ℕ) → bit b k < bit a k → inside a b ≡ false
 not-inside a b k h = not-true-false _ (λ e. let q = inside-of a b e k in omega arith)
+
+pub keep-grows : (b : Bool) (k s : ℕ) → Inside s (keep b k s)
+keep-grows true k s = with-grows s k
+keep-grows false k s = λ j. le-refl (bit s j)
 
 -- ---- the set of the nodes below n of which f is true
 pub gather-lt : (f : ℕ → Bool) (n : ℕ) → gather f n < 2 ^ n
@@ -322,3 +341,18 @@ in-list (x ∷ l) k i = elim (ℕ-discrete k x) [
   | yes e ↦ here e
   | no e ↦ there (in-list l k (sym (bit-with-other (setOf l) x k e) ∙ i))
 ]
+
+-- a list of numbers is as a set what its members are
+pub same-list : (l m : List ℕ) → ((k : ℕ) → List·Memᴰ k l ↔ List·Memᴰ k m) → setOf l ≡ setOf m
+same-list l m f =
+    inside-both _ _ (inside-in _ _ (λ k i. list-in m k (f k .0 (in-list l k i)))) (inside-in _ _ (λ k i. list-in l k (f k .1 (in-list m k i))))
+
+-- one number more at the end
+pub list-snoc : (l : List ℕ) (k : ℕ) → with (setOf l) k ≡ setOf (l ++ k ∷ [])
+unfolding setOf
+list-snoc l k =
+    same-list (k ∷ l) (l ++ k ∷ [])
+    (λ j. (
+      λ m. elim m [ here e ↦ Memᴰ·append-right l (here e) | there t ↦ Memᴰ·append-left (k ∷ []) t ],
+      λ m. ⊎-elim (λ (t : List·Memᴰ j l). there t) (λ (t : List·Memᴰ j (k ∷ [])). here (List·Memᴰ·eq-of-singleton t)) (List·Memᴰ·append-cases l m),
+    ))

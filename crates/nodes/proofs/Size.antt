@@ -16,8 +16,8 @@ use lib.Bits.{bitAnd, bitOr, block-half, block-odd, and-step, or-step, and-zero-
 use lib.ListN.{length, length-append}
 use Rattle.lemmas.specs.Lists.{Ascending}
 use Rattle.lemmas.proofs.Lists.{ascending-snoc}
-use Rattle.nodes.specs.Sets.{bit, In, has, union, meet, with, single, Inside, only, membersFrom, members, size}
-use Rattle.nodes.proofs.Bit.{bit-zero, bit-suc, bit-le, in-lt, has-bit, has-in, in-has, pow-gt, with-union, bit-meet, bit-single-other, empty-same}
+use Rattle.nodes.specs.Sets.{bit, In, has, union, meet, minus, with, single, Inside, only, membersFrom, members, size}
+use Rattle.nodes.proofs.Bit.{bit-zero, bit-suc, bit-le, in-lt, has-bit, has-in, in-has, pow-gt, with-union, bit-union, bit-meet, bit-minus, bit-single-other, empty-same, same, inside-both, minus-none}
 
 -- ---- the members from k on, however large the bound of the recursion
 more : (f k s : ℕ) → s ≤ f → membersFrom (suc f) k s ≡ membersFrom f k s
@@ -233,3 +233,11 @@ size-with s k z = ap size (with-union s k) ∙ size-disjoint s (single k) (only-
 -- ---- a set is empty exactly if its size is 0
 pub size-zero : (s : ℕ) → size s ≡ 0 → s ≡ 0
 size-zero = bin-ind (λ (s : ℕ). size s ≡ 0 → s ≡ 0) (λ e. refl) (λ s ih e. let q = ih (omega (arith, size-step s)) in omega (arith, size-step s))
+
+-- a set inside another of no greater size is that set
+pub size-same : (a b : ℕ) → Inside a b → size b ≤ size a → a ≡ b
+size-same a b f h =
+    let whole : union a (minus b a) ≡ b = same _ b (λ k. omega (arith, bit-union a (minus b a) k, bit-minus b a k, bit-le b k, f k)) in
+    let apart : meet a (minus b a) ≡ 0 = empty-same _ (λ k. omega (arith, bit-meet a (minus b a) k, bit-minus b a k, bit-le a k, bit-le b k)) in
+    let rest : minus b a ≡ 0 = size-zero _ (omega (arith, size-disjoint a (minus b a) apart, ap size whole)) in
+    inside-both a b f (minus-none b a rest)

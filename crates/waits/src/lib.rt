@@ -7,6 +7,7 @@ pub use numbers::EDGES;
 pub use numbers::Refusal;
 pub use numbers::check;
 pub use numbers::check_row;
+pub use numbers::refused;
 pub use rows::ROW;
 pub use rows::Row;
 pub use rows::edges;

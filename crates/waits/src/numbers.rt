@@ -30,7 +30,7 @@ pub enum Checked {
     Refused(Refusal),
 }
 
-fn refused(number: u64, row: Node) -> Checked
+pub fn refused(number: u64, row: Node) -> Checked
     ensures { λ r. ⌜ r ≡ Checked.Refused (record { number = number; row = row }) ⌝ }
 {
     Checked::Refused(Refusal {

@@ -1,0 +1,139 @@
+-- What the calls answer is so, from the sets that were computed. Assumes nothing.
+use mathlib.Core.Path.{_≡_, refl, sym, ap, ap₂, _∙_}
+use mathlib.Core.Bool.{Bool, true, false, cond}
+use mathlib.Core.Logic.{_⊎_, inl, inr, ⊎-elim, _↔_}
+use mathlib.Core.List.{List, _++_}
+use Prim.Native.Nat.{ℕ, _≤_, _<_}
+use native.Mathlib.Omega.{arith}
+use lib.ListN.{length, drop}
+use Rattle.lemmas.proofs.Tests.{not-both}
+use Rattle.nodes.specs.Sets.{In, Inside, has, meet, with, below, members, size}
+use Rattle.nodes.specs.Words.{places}
+use Rattle.nodes.proofs.Bit.{bit-empty, in-meet, in-with, in-below, has-in, in-has, inside-in}
+use Rattle.nodes.proofs.Size.{members-in, members-ascending, size-members}
+use Rattle.waits.specs.declared.numbers.Checked.{Checked}
+use Rattle.waits.specs.declared.numbers.Checked.the-variants.{Accepted, Refused}
+use Rattle.waits.specs.declared.numbers.Refusal.{Refusal}
+use Rattle.waits.specs.Waits.{Waits, Lawful}
+use Rattle.waits.specs.Deadlocked.{Deadlocked, Path, Reachable, passes}
+use Rattle.waits.specs.Rows.{waitsOf, Shaped}
+use Rattle.waits.specs.Numbers.{checkOf}
+use Rattle.waits.proofs.Table.{accepted-shaped}
+use Rattle.waits.proofs.Lawful.{accepted-lawful}
+use Rattle.deadlock.specs.Refusals.{strangeEntry, checkNodeOf, checkListOf, checkRoomOf}
+use Rattle.deadlock.specs.Evidence.{Evidence, WrittenSays, judged, judgedOf}
+use Rattle.deadlock.specs.declared.evidence.Written.the-variants.{Bytes}
+use Rattle.deadlock.specs.declared.evidence.Judged.the-variants.{Passes, Fails, Refused as Judged·Refused}
+use Rattle.deadlock.specs.Ring.{OnRing}
+use Rattle.deadlock.specs.Sweeps.{stuck, ahead, knot}
+use Rattle.deadlock.proofs.Reduction.{stuck-iff}
+use Rattle.deadlock.proofs.Paths.{ahead-iff, reachable-node}
+use Rattle.deadlock.proofs.Refused.{node-accepted, list-accepted, room-accepted}
+
+-- ---- over any lawful graph of waits, and a node of it
+module _ (w : Waits) (law : Lawful w) (i : ℕ) (h : i < w .nodes) where
+  stuck-yes : has (stuck w) i ≡ true → Deadlocked w i
+  stuck-yes e = stuck-iff w law i .0 (has-in (stuck w) i e) .1
+
+  stuck-no : has (stuck w) i ≡ false → Deadlocked w i → ⊥
+  stuck-no e d = not-both (in-has (stuck w) i (stuck-iff w law i .1 (h, d))) e
+
+  reached : (j : ℕ) → In j (with (ahead w i) i) ↔ Reachable w i j
+  reached j = (
+    λ m. ⊎-elim (λ (a : In j (ahead w i)). inr (ahead-iff w law i h j .0 a)) (λ (q : j ≡ i). inl (sym q)) (in-with (ahead w i) i j .0 m),
+    λ r. in-with (ahead w i) i j .1 (⊎-elim (λ (q : i ≡ j). inr (sym q)) (λ (p : Path w i j). inl (ahead-iff w law i h j .1 p)) r),
+  )
+
+  -- the evidence as a set has exactly the nodes of the evidence
+  in-knot : (b : Bool) → has (stuck w) i ≡ b → (j : ℕ)
+      → In j (cond b (meet (stuck w) (with (ahead w i) i)) 0) ↔ (Deadlocked w i × Deadlocked w j × Reachable w i j)
+  in-knot true e j = (
+    λ m. let p = in-meet (stuck w) (with (ahead w i) i) j .0 m in (stuck-yes e, stuck-iff w law j .0 (p .0) .1, reached j .0 (p .1)),
+    λ t. in-meet (stuck w) (with (ahead w i) i) j .1 (stuck-iff w law j .1 (reachable-node w law h (t .2), t .1), reached j .1 (t .2)),
+  )
+  in-knot false e j = (λ m. absurd (let z = bit-empty j in omega arith), λ t. absurd (stuck-no e (t .0)))
+
+  knot-iff : (j : ℕ) → In j (knot w i) ↔ (Deadlocked w i × Deadlocked w j × Reachable w i j)
+  unfolding knot
+  knot-iff = in-knot (has (stuck w) i) refl
+
+-- ---- all claims of a graph that isn't refused
+pub found : (n : ℕ) (rows : List ℕ) → checkOf n rows ≡ Accepted → (s : ℕ) → s ≡ stuck (waitsOf n rows)
+    → (k : ℕ) → In k s ↔ ((k < n) × Deadlocked (waitsOf n rows) k)
+found n rows ok s e k = rw e (stuck-iff (waitsOf n rows) (accepted-lawful n rows ok) k)
+
+-- ---- a node asked about, where the question isn't refused
+module _ (n : ℕ) (rows : List ℕ) (i : ℕ) (ok : checkNodeOf n rows i ≡ Accepted) where
+  law : Lawful (waitsOf n rows)
+  law = accepted-lawful n rows (node-accepted n rows i ok .0)
+
+  here : i < n
+  here = node-accepted n rows i ok .1
+
+  pub node-shaped : Shaped n rows × (i < n)
+  node-shaped = (accepted-shaped n rows (node-accepted n rows i ok .0), here)
+
+  pub is-stuck : has (stuck (waitsOf n rows)) i ≡ true → Deadlocked (waitsOf n rows) i
+  is-stuck = stuck-yes (waitsOf n rows) law i here
+
+  pub not-stuck : has (stuck (waitsOf n rows)) i ≡ false → Deadlocked (waitsOf n rows) i → ⊥
+  not-stuck = stuck-no (waitsOf n rows) law i here
+
+  pub on-ring : has (ahead (waitsOf n rows) i) i ≡ true → OnRing (waitsOf n rows) i
+  on-ring e = ahead-iff (waitsOf n rows) law i here i .0 (has-in _ _ e)
+
+  pub off-ring : has (ahead (waitsOf n rows) i) i ≡ false → OnRing (waitsOf n rows) i → ⊥
+  off-ring e p = not-both (in-has _ _ (ahead-iff (waitsOf n rows) law i here i .1 p)) e
+
+  knot-below : (s : ℕ) → s ≡ knot (waitsOf n rows) i → Inside s (below n)
+  knot-below s e = rw e (inside-in _ _ (λ j m. in-below n j .1 (reachable-node (waitsOf n rows) law here (knot-iff (waitsOf n rows) law i here j .0 m .2))))
+
+  knot-evidence : (s : ℕ) → s ≡ knot (waitsOf n rows) i → Evidence (waitsOf n rows) i (members s)
+  knot-evidence s e = rw e (record {
+    ascends = members-ascending _;
+    members = λ j. (
+      λ m. knot-iff (waitsOf n rows) law i here j .0 (members-in _ j .0 m),
+      λ t. members-in _ j .1 (knot-iff (waitsOf n rows) law i here j .1 t),
+    );
+  })
+
+-- ---- lent room
+pub room-shaped : (n : ℕ) (rows : List ℕ) (i room : ℕ) → checkRoomOf n rows i room ≡ Accepted → Shaped n rows × (i < n)
+room-shaped n rows i room ok = node-shaped n rows i (room-accepted n rows i room ok .0)
+
+pub room-write : (n : ℕ) (rows : List ℕ) (i : ℕ) (found : List ℕ) (s : ℕ) → checkRoomOf n rows i (length found) ≡ Accepted → s ≡ knot (waitsOf n rows) i
+    → Inside s (below n) × (n ≤ places) × (n ≤ length found)
+room-write n rows i found s ok e =
+    let p = room-accepted n rows i (length found) ok in
+    (knot-below n rows i (p .0) s e, node-shaped n rows i (p .0) .0 .0, p .1)
+
+pub room-written : (n : ℕ) (rows : List ℕ) (i : ℕ) (found left : List ℕ) (s k : ℕ) → checkRoomOf n rows i (length found) ≡ Accepted → s ≡ knot (waitsOf n rows) i
+    → (k ≡ size s) × (left ≡ members s ++ drop (size s) found) → WrittenSays n rows i found left (Bytes k)
+room-written n rows i found left s k ok e w = (
+  ok,
+  (
+    members s,
+    knot-evidence n rows i (room-accepted n rows i (length found) ok .0) s e,
+    w .0 ∙ size-members s,
+    w .1 ∙ ap (λ (x : ℕ). members s ++ drop x found) (sym (w .0)),
+  ),
+)
+
+-- ---- a list that is offered
+pub list-shaped : (n : ℕ) (rows : List ℕ) (i : ℕ) (l : List ℕ) → checkListOf n rows i l ≡ Accepted → Shaped n rows × (strangeEntry n l ≡ false)
+list-shaped n rows i l ok = let p = list-accepted n rows i l ok in (node-shaped n rows i (p .0) .0, p .1)
+
+pub judged-refused : (n : ℕ) (rows : List ℕ) (i : ℕ) (l : List ℕ) {r : Refusal} → checkListOf n rows i l ≡ Refused r
+    → Judged·Refused r ≡ judgedOf n rows i l
+unfolding judgedOf
+judged-refused n rows i l e = sym (ap (λ (x : Checked). judged x (cond (passes (waitsOf n rows) i l) Passes Fails)) e)
+
+pub judged-passes : (n : ℕ) (rows : List ℕ) (i : ℕ) (l : List ℕ) → checkListOf n rows i l ≡ Accepted → passes (waitsOf n rows) i l ≡ true
+    → Passes ≡ judgedOf n rows i l
+unfolding judgedOf
+judged-passes n rows i l e f = sym (ap₂ (λ (x : Checked) (b : Bool). judged x (cond b Passes Fails)) e f)
+
+pub judged-fails : (n : ℕ) (rows : List ℕ) (i : ℕ) (l : List ℕ) → checkListOf n rows i l ≡ Accepted → passes (waitsOf n rows) i l ≡ false
+    → Fails ≡ judgedOf n rows i l
+unfolding judgedOf
+judged-fails n rows i l e f = sym (ap₂ (λ (x : Checked) (b : Bool). judged x (cond b Passes Fails)) e f)

@@ -1,0 +1,45 @@
+-- A cycle is no proof of a deadlock: the paper's first morning has cycles, and nobody in it is deadlocked. Assumes nothing.
+use mathlib.Core.Path.{_≡_, refl}
+use mathlib.Core.List.{List, [], _∷_}
+use mathlib.Core.List.List·Memᴰ.{List·Memᴰ·head as here}
+use Prim.Native.Nat.{ℕ}
+use lib.Dec.{lit<}
+use Rattle.nodes.specs.Sets.{bit, has, union, meet, minus, single, with, below, inside, membersFrom, members, size, setOf}
+use Rattle.nodes.specs.Words.{num}
+use Rattle.waits.specs.declared.numbers.Checked.the-variants.{Accepted}
+use Rattle.waits.specs.Waits.{edgesTo, edges}
+use Rattle.waits.specs.Deadlocked.{Reduction, Deadlocked}
+use Rattle.waits.specs.Deadlocked.Path.{edge, then}
+use Rattle.waits.specs.Rows.{rowAt, laterOf, outOf, liesIn, holdsOf, waitsOf}
+use Rattle.waits.specs.Numbers.{wrongCount, strangeKind, strangeMember, waitsOnItself, wrongThreshold, extraSet, badSets, manyEdges, checkOf}
+use Rattle.deadlock.specs.Ring.{OnRing}
+
+-- f1 = 4 ∨ 2, f2 = 3 ∧ 4 ∧ 5, f3 = 2 ∨ (6 ∧ 7), f4 = 7, f5 = 1 ∨ 7, f6 active, f7 = 6; a row is one less
+abbrev pub firstMorning : List ℕ
+firstMorning =
+    2 ∷ 0 ∷ 0b000_1000 ∷ 0b000_0010 ∷ 0 ∷ 0
+    ∷ 2 ∷ 0 ∷ 0b001_1100 ∷ 0 ∷ 0 ∷ 0
+    ∷ 2 ∷ 0 ∷ 0b000_0010 ∷ 0b110_0000 ∷ 0 ∷ 0
+    ∷ 1 ∷ 1 ∷ 0b100_0000 ∷ 0 ∷ 0 ∷ 0
+    ∷ 2 ∷ 0 ∷ 0b000_0001 ∷ 0b100_0000 ∷ 0 ∷ 0
+    ∷ 0 ∷ 0 ∷ 0 ∷ 0 ∷ 0 ∷ 0
+    ∷ 1 ∷ 1 ∷ 0b010_0000 ∷ 0 ∷ 0 ∷ 0
+    ∷ []
+
+accepted : checkOf 7 firstMorning ≡ Accepted
+unfolding checkOf wrongCount strangeKind strangeMember waitsOnItself wrongThreshold extraSet badSets manyEdges edgesTo edges rowAt laterOf outOf liesIn num bit has union meet minus single with below inside membersFrom members size
+accepted = refl
+
+-- 2 waits on 3, and 3 on 2
+cycle : OnRing (waitsOf 7 firstMorning) 1
+unfolding rowAt laterOf outOf num bit union
+cycle = then {j = 2} refl (edge refl)
+
+-- 6, 7, 4, 5, 3 and 2 are freed in this order
+freed-in-turn : Reduction (waitsOf 7 firstMorning) (1 ∷ 2 ∷ 4 ∷ 3 ∷ 6 ∷ 5 ∷ [])
+unfolding rowAt holdsOf liesIn num bit union meet inside membersFrom members size single with setOf
+freed-in-turn = (lit< tt, refl, (lit< tt, refl, (lit< tt, refl, (lit< tt, refl, (lit< tt, refl, (lit< tt, refl, tt))))))
+
+-- Theorem: node 1 of an accepted graph is on a cycle and is not deadlocked.
+pub cycle-no-deadlock : (checkOf 7 firstMorning ≡ Accepted) × OnRing (waitsOf 7 firstMorning) 1 × (Deadlocked (waitsOf 7 firstMorning) 1 → ⊥)
+cycle-no-deadlock = (accepted, cycle, λ d. d (1 ∷ 2 ∷ 4 ∷ 3 ∷ 6 ∷ 5 ∷ []) freed-in-turn (here refl))

@@ -1,0 +1,12 @@
+-- The theory of reduction over any graph of waits, and what the calls promise, from what their callees said.
+pub mod Sweeps
+pub mod Reduction
+pub mod Paths
+pub mod Passing
+pub mod Cases
+pub mod Writing
+pub mod Refused
+pub mod Answers
+pub mod Written
+pub mod Unique
+pub mod Cycle

@@ -1,0 +1,64 @@
+-- `reach_more` meets its contract. The loop's invariant: the nodes passed were visited in turn. Assumes nothing.
+use mathlib.Core.Path.{_≡_, ap, sym, _∙_}
+use mathlib.Core.Logic.{⊎-elim}
+use Prim.Native.Nat.{_≤_, _-_}
+use native.Mathlib.Omega.{arith}
+use borrow.Author.Needs.{needs}
+use Rattle.lemmas.proofs.Cases.{flag}
+use Rattle.nodes.specs.Words.{num}
+use Rattle.waits.specs.Rows.{waitsOf}
+use Rattle.deadlock.specs.Sweeps.{sweep, reaching}
+use Rattle.deadlock.proofs.Sweeps.{sweep-whole, sweep-none, sweep-more}
+use Rattle.deadlock.proofs.Cases.{joined}
+use Rattle.deadlock.proofs.Paths.{reaching-yes, reaching-no}
+use Rattle.deadlock.proofs.reach.reach_more.Statement.{statement}
+use Rattle.deadlock.proofs.reach.reach_more.Tie as tie
+
+abbrev Inv-loop : tie.InvT-loop
+Inv-loop nodes rows reached₀ k₀ reached k = (k ≤ nodes) × (num reached ≡ sweep (reaching (waitsOf nodes rows)) k (num reached₀))
+
+abbrev μ-loop : tie.MeasureT-loop
+μ-loop nodes rows reached₀ k₀ reached k = nodes - k
+
+loop-holds : tie.Need-loop-holds Inv-loop μ-loop
+loop-holds c = (search needs, sym (sweep-none _ _))
+
+row-at-requires : tie.Need-row-at-requires Inv-loop μ-loop
+row-at-requires c κs = omega arith
+
+has-requires : tie.Need-has-requires Inv-loop μ-loop
+has-requires c κs = search needs
+
+out-of-requires : tie.Need-out-of-requires Inv-loop μ-loop
+out-of-requires c κs = search needs
+
+union-requires : tie.Need-union-requires Inv-loop μ-loop
+union-requires c κs = search needs
+
+add-k : tie.Need-add-k Inv-loop μ-loop
+add-k c = omega arith
+
+loop-less : tie.Need-loop-less Inv-loop μ-loop
+loop-less c = omega arith
+
+loop-again : tie.Need-loop-again Inv-loop μ-loop
+loop-again c = (omega arith, ⊎-elim (λ v. ap num (v .3) ∙ sweep-more _ _ _ _ _ (c .before .before .before .before .loop .inv .1) (joined _ _ _ (v .2 .ensures) (v .1 .ensures) (c .before .before .row-at .ensures) ∙ reaching-yes _ _ _ (flag (c .before .has .ensures) (v .0 .taken)))) (λ v. ap num (v .1) ∙ sweep-more _ _ _ _ _ (c .before .before .before .before .loop .inv .1) (reaching-no _ _ _ (flag (c .before .has .ensures) (v .0 .left)))) (c .if1 .came))
+
+returns : tie.Need-returns Inv-loop μ-loop
+returns c = sweep-whole _ _ _ _ _ (omega arith) (c .before .loop .inv .1)
+
+pub reach-more-spec : {M : Type 1} → statement M
+reach-more-spec =
+    tie.close
+    (tie.spec
+    Inv-loop
+    μ-loop
+    loop-holds
+    row-at-requires
+    has-requires
+    out-of-requires
+    union-requires
+    add-k
+    loop-less
+    loop-again
+    returns)

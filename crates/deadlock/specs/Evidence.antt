@@ -1,0 +1,39 @@
+-- Evidence: what is written for a claim, and what is answered of a list that is offered. Assumes nothing.
+use mathlib.Core.Path.{_≡_}
+use mathlib.Core.Bool.{cond}
+use mathlib.Core.Logic.{_↔_}
+use mathlib.Core.List.{List, _++_, List·Memᴰ}
+use Prim.Native.Nat.{ℕ}
+use lib.ListN.{length, drop}
+use Rattle.lemmas.specs.Lists.{Ascending}
+use Rattle.waits.specs.declared.numbers.Checked.{Checked}
+use Rattle.waits.specs.declared.numbers.Checked.the-variants.{Accepted, Refused}
+use Rattle.waits.specs.Waits.{Waits}
+use Rattle.waits.specs.Deadlocked.{Deadlocked, Reachable, passes}
+use Rattle.waits.specs.Rows.{waitsOf}
+use Rattle.deadlock.specs.declared.evidence.Written.{Written}
+use Rattle.deadlock.specs.declared.evidence.Written.the-variants.{Bytes, Refused as Written·Refused}
+use Rattle.deadlock.specs.declared.evidence.Judged.{Judged}
+use Rattle.deadlock.specs.declared.evidence.Judged.the-variants.{Passes, Fails, Refused as Judged·Refused}
+use Rattle.deadlock.specs.Refusals.{checkListOf, checkRoomOf}
+
+-- The evidence for i is every deadlocked node reachable from i, ascending; nobody if i isn't deadlocked.
+pub record Evidence (w : Waits) (i : ℕ) (l : List ℕ) : Type 0 where
+  pub ascends : Ascending l
+  pub members : (j : ℕ) → List·Memᴰ j l ↔ (Deadlocked w i × Deadlocked w j × Reachable w i j)
+
+-- Of node i, with the lent bytes as found and as left: the refusal, and nothing is written; or how many bytes were written,
+-- one for each node of the evidence, and the bytes after them stay.
+abbrev pub WrittenSays : ℕ → List ℕ → ℕ → List ℕ → List ℕ → Written → Type 0
+WrittenSays n rows i found left (Written·Refused r) = (checkRoomOf n rows i (length found) ≡ Refused r) × (left ≡ found)
+WrittenSays n rows i found left (Bytes k) =
+    (checkRoomOf n rows i (length found) ≡ Accepted)
+    × ((l : List ℕ) × Evidence (waitsOf n rows) i l × (k ≡ length l) × (left ≡ l ++ drop k found))
+
+-- Of a list for node i: the refusal, or whether it passes.
+abbrev pub judged : Checked → Judged → Judged
+judged (Refused r) j = Judged·Refused r
+judged Accepted j = j
+
+unfoldable pub judgedOf : ℕ → List ℕ → ℕ → List ℕ → Judged
+judgedOf n rows i l = judged (checkListOf n rows i l) (cond (passes (waitsOf n rows) i l) Passes Fails)

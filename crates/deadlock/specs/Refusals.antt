@@ -1,0 +1,35 @@
+-- When a question about a graph is refused: the graph's numbers, then 9, 14 and 15, each with the line that the paper's
+-- table has for it. Assumes nothing.
+use mathlib.Core.Bool.{Bool}
+use mathlib.Core.List.{List, [], _∷_, _++_}
+use Prim.Native.Nat.{ℕ}
+use lib.Dec.{leb, ltb}
+use Rattle.lemmas.specs.Lists.{anyOf}
+use Rattle.waits.specs.declared.numbers.Checked.{Checked}
+use Rattle.waits.specs.Numbers.{Line, line, graphLines, firstSaid}
+
+-- no node has this number
+unfoldable pub noNode : ℕ → ℕ → Bool
+noNode n i = leb n i
+
+-- 14: an entry of the list names no node
+unfoldable pub strangeEntry : ℕ → List ℕ → Bool
+strangeEntry n l = anyOf (noNode n) l
+
+-- 15: the lent room is under the node count, whatever is needed of it
+unfoldable pub smallRoom : ℕ → ℕ → Bool
+smallRoom n room = ltb room n
+
+-- The graph; then 9: the node asked about doesn't exist; then what the question adds. None of these is of a row.
+abbrev pub askedLines : ℕ → List ℕ → ℕ → List Line → List Line
+askedLines n rows i more = graphLines n rows ++ line 9 0 (noNode n i) ∷ more
+
+-- what the check of a question about node i answers; of one that comes with a list; of one that comes with lent room
+unfoldable pub checkNodeOf : ℕ → List ℕ → ℕ → Checked
+checkNodeOf n rows i = firstSaid (askedLines n rows i [])
+
+unfoldable pub checkListOf : ℕ → List ℕ → ℕ → List ℕ → Checked
+checkListOf n rows i l = firstSaid (askedLines n rows i (line 14 0 (strangeEntry n l) ∷ []))
+
+unfoldable pub checkRoomOf : ℕ → List ℕ → ℕ → ℕ → Checked
+checkRoomOf n rows i room = firstSaid (askedLines n rows i (line 15 0 (smallRoom n room) ∷ []))

@@ -1,0 +1,133 @@
+// Evidence: written for a claim, and judged when a list is offered.
+ghost use mathlib.Core.Path.{_≡_};
+ghost use mathlib.Core.Bool.{false};
+ghost use mathlib.Core.List.{_++_};
+ghost use Prim.Native.Nat.{_≤_, _<_};
+ghost use lib.ListN.{length, drop};
+ghost use Rattle.lemmas.specs.Lists.{anyOf};
+ghost use Rattle.nodes.specs.Sets.{Inside, below, members, size, setOf};
+ghost use Rattle.nodes.specs.Words.{num, places};
+ghost use Rattle.waits.specs.Rows.{waitsOf, Shaped};
+ghost use Rattle.waits.specs.Deadlocked.{passes};
+ghost use Rattle.deadlock.specs.Sweeps.{knot as knot-of};
+ghost use Rattle.deadlock.specs.Refusals.{strangeEntry};
+ghost use Rattle.deadlock.specs.Evidence.{WrittenSays, judgedOf};
+use crate::reach::ahead;
+use crate::reduce::stuck;
+use crate::refusals::check_list;
+use crate::refusals::check_room;
+use crate::refusals::named;
+use nodes::Node;
+use nodes::Set;
+use waits::Checked;
+use waits::Refusal;
+use waits::holds;
+use waits::row_at;
+
+// How many bytes were written.
+pub enum Written {
+    Bytes(usize),
+    Refused(Refusal),
+}
+
+pub enum Judged {
+    Passes,
+    Fails,
+    Refused(Refusal),
+}
+
+// The evidence for i as a set: the stuck nodes reachable from i, and nobody if i isn't stuck.
+fn knot(nodes: usize, rows: &[u64], i: Node) -> Set
+    requires { ⌜ Shaped nodes (now rows) × (i .0 < nodes) ⌝ }
+    ensures { λ r. ⌜ num r ≡ knot-of (waitsOf nodes (now (rows .entry))) (i .0) ⌝ }
+{
+    let stuck = stuck(nodes, rows);
+    if !stuck.has(i) {
+        return Set::empty();
+    }
+    stuck.meet(ahead(nodes, rows, i).with(i))
+}
+
+// Writes the members of a set, ascending, one byte each; the bytes after them stay.
+fn write(s: Set, nodes: usize, room: &mut [u8]) -> usize
+    requires { ⌜ Inside (num s) (below nodes) × (nodes ≤ places) × (nodes ≤ length (now room)) ⌝ }
+    ensures { λ r. ⌜ (r ≡ size (num s)) × (now (room .exit) ≡ members (num s) ++ drop (size (num s)) (now (room .entry))) ⌝ }
+{
+    let mut at: usize = 0;
+    let mut k: usize = 0;
+    while k < nodes {
+        if s.has(Node(k)) {
+            room[at] = k as u8;
+            at += 1;
+        }
+        k += 1;
+    }
+    at
+}
+
+pub fn write_evidence(nodes: usize, rows: &[u64], i: Node, room: &mut [u8]) -> Written
+    ensures { λ r. ⌜ WrittenSays nodes (now (rows .entry)) (i .0) (now (room .entry)) (now (room .exit)) r ⌝ }
+{
+    let checked = check_room(nodes, rows, i, room.len());
+    if let Checked::Refused(r) = checked {
+        return Written::Refused(r);
+    }
+    let evidence = knot(nodes, rows, i);
+    Written::Bytes(write(evidence, nodes, room))
+}
+
+// The set of the nodes that a list names.
+fn set_of(nodes: usize, list: &[u8]) -> Set
+    requires { ⌜ (nodes ≤ places) × (strangeEntry nodes (now list) ≡ false) ⌝ }
+    ensures { λ r. ⌜ num r ≡ setOf (now (list .entry)) ⌝ }
+{
+    let mut s = Set::empty();
+    let mut at: usize = 0;
+    while at < list.len() {
+        s = s.with(named(list[at]));
+        at += 1;
+    }
+    s
+}
+
+// Whether some member's condition holds when the nodes of g grant.
+fn some_holds(nodes: usize, rows: &[u64], list: &[u8], g: Set) -> bool
+    requires { ⌜ Shaped nodes (now rows) × (strangeEntry nodes (now list) ≡ false) ⌝ }
+    ensures { λ r. ⌜ r ≡ anyOf (λ j. waitsOf nodes (now (rows .entry)) .holds j (num g)) (now (list .entry)) ⌝ }
+{
+    let mut at: usize = 0;
+    while at < list.len() {
+        let row = row_at(rows, named(list[at]));
+        if holds(row, g) {
+            return true;
+        }
+        at += 1;
+    }
+    false
+}
+
+// Whether a list of nodes passes for i.
+fn list_passes(nodes: usize, rows: &[u64], i: Node, list: &[u8]) -> bool
+    requires { ⌜ Shaped nodes (now rows) × (strangeEntry nodes (now list) ≡ false) ⌝ }
+    ensures { λ r. ⌜ r ≡ passes (waitsOf nodes (now (rows .entry))) (i .0) (now (list .entry)) ⌝ }
+{
+    let named = set_of(nodes, list);
+    if !named.has(i) {
+        return false;
+    }
+    let all = Set::below(nodes);
+    !some_holds(nodes, rows, list, all.minus(named))
+}
+
+pub fn check_evidence(nodes: usize, rows: &[u64], i: Node, list: &[u8]) -> Judged
+    ensures { λ r. ⌜ r ≡ judgedOf nodes (now (rows .entry)) (i .0) (now (list .entry)) ⌝ }
+{
+    let checked = check_list(nodes, rows, i, list);
+    if let Checked::Refused(r) = checked {
+        return Judged::Refused(r);
+    }
+    if list_passes(nodes, rows, i, list) {
+        return Judged::Passes;
+    }
+    Judged::Fails
+}

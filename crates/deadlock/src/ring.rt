@@ -1,0 +1,31 @@
+// The ring report: where a deadlocked claim stands.
+ghost use Rattle.deadlock.specs.Ring.{ReportSays};
+use crate::reach::ahead;
+use crate::reduce::stuck;
+use crate::refusals::check_node;
+use nodes::Node;
+use waits::Checked;
+use waits::Refusal;
+
+pub enum Report {
+    InRing,
+    BehindRing,
+    NotDeadlocked,
+    Refused(Refusal),
+}
+
+pub fn ring_report(nodes: usize, rows: &[u64], i: Node) -> Report
+    ensures { λ r. ⌜ ReportSays nodes (now (rows .entry)) (i .0) r ⌝ }
+{
+    let checked = check_node(nodes, rows, i);
+    if let Checked::Refused(r) = checked {
+        return Report::Refused(r);
+    }
+    if !stuck(nodes, rows).has(i) {
+        return Report::NotDeadlocked;
+    }
+    if ahead(nodes, rows, i).has(i) {
+        return Report::InRing;
+    }
+    Report::BehindRing
+}
