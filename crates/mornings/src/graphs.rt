@@ -1,4 +1,6 @@
 // Graphs, row by row. Sets are written in binary: the last digit is node 0.
+ghost use mathlib.Core.Path.{_≡_};
+ghost use lib.ListN.{length};
 use crate::say::checked;
 use waits::ROW;
 
@@ -22,8 +24,10 @@ pub fn one_of(set: u64) -> [u64; 6] {
     [1, 1, set, 0, 0, 0]
 }
 
-// A line on the first rows of a graph of at most ten nodes.
-pub fn graph(label: &[u8], nodes: usize, rows: [[u64; 6]; 10]) {
+// Ten rows, one after the other.
+pub fn flat(rows: [[u64; 6]; 10]) -> [u64; 60]
+    ensures { λ r. ⌜ length r ≡ 60 ⌝ }
+{
     let mut flat = [0u64; 60];
     let mut k: usize = 0;
     while k < 10 {
@@ -31,10 +35,7 @@ pub fn graph(label: &[u8], nodes: usize, rows: [[u64; 6]; 10]) {
         put(&mut flat, k, row);
         k += 1;
     }
-    if nodes <= 10 {
-        let end = nodes * ROW;
-        checked(label, nodes, &flat[..end]);
-    }
+    flat
 }
 
 // Eight of the first nine nodes: all but node k, for k from 0 to 8.

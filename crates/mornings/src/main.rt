@@ -1,5 +1,7 @@
-// What the graph check says of the paper's mornings, and of bad graphs of every kind.
+// What is said of the claims of the paper's mornings, of lists that are offered, and of bad input of every kind.
+mod claims;
 mod graphs;
+mod lists;
 mod mornings;
 mod refusals;
 mod say;
@@ -9,6 +11,13 @@ fn main() {
     mornings::small();
     mornings::ninth();
     mornings::eleventh();
+    say::text(b"\nLists\n");
+    lists::third();
+    lists::twelfth();
+    say::text(b"\nQuestions\n");
+    lists::refused();
+    lists::rooms();
+    lists::bad_row();
     say::text(b"\nBad graphs\n");
     refusals::counts();
     refusals::rows();

@@ -1,11 +1,12 @@
 // The graphs of the paper's mornings. Papers count nodes from 1, and rows from 0.
+use crate::claims::morning;
 use crate::graphs::ACTIVE;
 use crate::graphs::eight_each;
-use crate::graphs::graph;
+use crate::graphs::flat;
 use crate::graphs::one_of;
 use crate::graphs::put;
 use crate::graphs::with_row;
-use crate::say::checked;
+use waits::ROW;
 
 // Document 000, figure 1.
 const FIRST: [[u64; 6]; 10] = [
@@ -52,12 +53,25 @@ const TENTH: [[u64; 6]; 10] = [
     ACTIVE,
 ];
 
+pub fn second() -> [u64; 60] {
+    flat(SECOND)
+}
+
+// What is said of the claims of the first rows of ten.
+fn graph(label: &[u8], nodes: usize, rows: [[u64; 6]; 10]) {
+    let all = flat(rows);
+    if nodes <= 10 {
+        let end = nodes * ROW;
+        morning(label, nodes, &all[..end]);
+    }
+}
+
 pub fn small() {
     graph(b"morning 1", 7, FIRST);
     graph(b"morning 2", 10, SECOND);
-    checked(b"morning 4", 2, &FOURTH);
-    checked(b"morning 5", 1, &ACTIVE);
-    checked(b"morning 6", 2, &SIXTH);
+    morning(b"morning 4", 2, &FOURTH);
+    morning(b"morning 5", 1, &ACTIVE);
+    morning(b"morning 6", 2, &SIXTH);
     graph(b"morning 10", 5, TENTH);
 }
 
@@ -67,7 +81,7 @@ fn votes(label: &[u8], needed: u64) {
     put(&mut g, 0, [1, needed, 0b1110, 0, 0, 0]);
     put(&mut g, 2, one_of(0b0001));
     put(&mut g, 3, one_of(0b0001));
-    checked(label, 4, &g);
+    morning(label, 4, &g);
 }
 
 pub fn ninth() {
@@ -80,9 +94,9 @@ pub fn ninth() {
 
 // The limits: 64 nodes and one more, 512 edges and one more.
 pub fn eleventh() {
-    checked(b"morning 11, 64 nodes", 64, &[0u64; 384]);
-    checked(b"morning 11, 65 nodes", 65, &[0u64; 390]);
-    checked(b"morning 11, 512 edges", 64, &eight_each());
+    morning(b"morning 11, 64 nodes", 64, &[0u64; 384]);
+    morning(b"morning 11, 65 nodes", 65, &[0u64; 390]);
+    morning(b"morning 11, 512 edges", 64, &eight_each());
     with_row(
         b"morning 11, 513 edges",
         eight_each(),

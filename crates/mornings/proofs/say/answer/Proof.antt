@@ -1,4 +1,4 @@
--- `answer` meets its contract: the edges of an accepted graph may be counted, since its rows have their shape. Assumes nothing.
+-- `answer` meets its contract. The edges of an accepted graph may be counted, since its rows have their shape. Assumes nothing.
 use mathlib.Core.Path.{sym, _∙_}
 use borrow.Author.Needs.{needs}
 use Rattle.waits.proofs.Table.{accepted-shaped}
@@ -26,29 +26,14 @@ number-requires c κs = search needs
 enum-known-checked : tie.Need-enum-known-checked
 enum-known-checked c = search needs
 
+refusal-requires : tie.Need-refusal-requires
+refusal-requires c κs = search needs
+
 slice-aggregate-text-2 : tie.Need-slice-aggregate-text-2
 slice-aggregate-text-2 c = search needs
 
 text-requires-2 : tie.Need-text-requires-2
 text-requires-2 c κs = search needs
-
-number-requires-2 : tie.Need-number-requires-2
-number-requires-2 c κs = search needs
-
-slice-aggregate-text-3 : tie.Need-slice-aggregate-text-3
-slice-aggregate-text-3 c = search needs
-
-text-requires-3 : tie.Need-text-requires-3
-text-requires-3 c κs = search needs
-
-number-requires-3 : tie.Need-number-requires-3
-number-requires-3 c κs = search needs
-
-slice-aggregate-text-4 : tie.Need-slice-aggregate-text-4
-slice-aggregate-text-4 c = search needs
-
-text-requires-4 : tie.Need-text-requires-4
-text-requires-4 c κs = search needs
 
 returns : tie.Need-returns
 returns c = search needs
@@ -64,12 +49,7 @@ answer-spec =
     edges-requires
     number-requires
     enum-known-checked
+    refusal-requires
     slice-aggregate-text-2
     text-requires-2
-    number-requires-2
-    slice-aggregate-text-3
-    text-requires-3
-    number-requires-3
-    slice-aggregate-text-4
-    text-requires-4
     returns)
