@@ -111,12 +111,13 @@ fn list_passes(nodes: usize, rows: &[u64], i: Node, list: &[u8]) -> bool
     requires { ⌜ Shaped nodes (now rows) × (strangeEntry nodes (now list) ≡ false) ⌝ }
     ensures { λ r. ⌜ r ≡ passes (waitsOf nodes (now (rows .entry))) (i .0) (now (list .entry)) ⌝ }
 {
+    let all = Set::below(nodes);
     let named = set_of(nodes, list);
+    let outside = all.minus(named);
     if !named.has(i) {
         return false;
     }
-    let all = Set::below(nodes);
-    !some_holds(nodes, rows, list, all.minus(named))
+    !some_holds(nodes, rows, list, outside)
 }
 
 pub fn check_evidence(nodes: usize, rows: &[u64], i: Node, list: &[u8]) -> Judged

@@ -14,7 +14,7 @@ use Rattle.deadlock.proofs.reach.ahead.Statement.{statement}
 use Rattle.deadlock.proofs.reach.ahead.Tie as tie
 
 abbrev Inv-loop : tie.InvT-loop
-Inv-loop nodes rows g₀ t₀ g t = (t ≤ nodes) × (num g ≡ sweeps (reaching (waitsOf nodes rows)) nodes t (num g₀))
+Inv-loop nodes rows g₀ t₀ g t = (num g ≡ sweeps (reaching (waitsOf nodes rows)) nodes t (num g₀)) × (t ≤ nodes)
 
 abbrev μ-loop : tie.MeasureT-loop
 μ-loop nodes rows g₀ t₀ g t = nodes - t
@@ -26,7 +26,7 @@ out-of-requires : tie.Need-out-of-requires Inv-loop μ-loop
 out-of-requires c κs = search needs
 
 loop-holds : tie.Need-loop-holds Inv-loop μ-loop
-loop-holds c = (search needs, sym (sweeps-none _ _ _))
+loop-holds c = (sym (sweeps-none _ _ _), search needs)
 
 reach-more-requires : tie.Need-reach-more-requires Inv-loop μ-loop
 reach-more-requires c κs = search needs
@@ -39,7 +39,7 @@ is-empty-requires c κs = search needs
 
 returns : tie.Need-returns Inv-loop μ-loop
 unfolding ahead-of
-returns c = nobody-new _ (reaching-grows _) _ _ _ _ _ (omega arith) (c .before .before .before .before .before .loop .inv .1) (c .before .before .before .reach-more .ensures) (sym (c .before .before .minus .ensures) ∙ eqb-true _ _ (flag (c .before .is-empty .ensures) (c .if1 .taken))) ∙ ap (sweeps _ _ _) ((c .before .before .before .before .before .before .out-of .ensures) ∙ ap outOf (c .before .before .before .before .before .before .before .row-at .ensures))
+returns c = nobody-new _ (reaching-grows _) _ _ _ _ _ (omega arith) (c .before .before .before .before .before .loop .inv .0) (c .before .before .before .reach-more .ensures) (sym (c .before .before .minus .ensures) ∙ eqb-true _ _ (flag (c .before .is-empty .ensures) (c .if1 .taken))) ∙ ap (sweeps _ _ _) ((c .before .before .before .before .before .before .out-of .ensures) ∙ ap outOf (c .before .before .before .before .before .before .before .row-at .ensures))
 
 add-t : tie.Need-add-t Inv-loop μ-loop
 add-t c = omega arith
@@ -48,11 +48,11 @@ loop-less : tie.Need-loop-less Inv-loop μ-loop
 loop-less c = omega arith
 
 loop-again : tie.Need-loop-again Inv-loop μ-loop
-loop-again c = (omega arith, sweeps-more _ _ _ _ _ _ (c .before .before .before .before .before .loop .inv .1) (c .before .before .before .reach-more .ensures))
+loop-again c = (sweeps-more _ _ _ _ _ _ (c .before .before .before .before .before .loop .inv .0) (c .before .before .before .reach-more .ensures), omega arith)
 
 returns-2 : tie.Need-returns-2 Inv-loop μ-loop
 unfolding ahead-of
-returns-2 c = let e : (c .before .loop .t) ≡ (c .before .before .before .before .before .args .nodes) = omega arith in sweeps-whole _ _ _ _ _ e (c .before .loop .inv .1) ∙ ap (sweeps _ _ _) ((c .before .before .out-of .ensures) ∙ ap outOf (c .before .before .before .row-at .ensures))
+returns-2 c = let e : (c .before .loop .t) ≡ (c .before .before .before .before .before .args .nodes) = omega arith in sweeps-whole _ _ _ _ _ e (c .before .loop .inv .0) ∙ ap (sweeps _ _ _) ((c .before .before .out-of .ensures) ∙ ap outOf (c .before .before .before .row-at .ensures))
 
 pub ahead-spec : {M : Type 1} → statement M
 ahead-spec =

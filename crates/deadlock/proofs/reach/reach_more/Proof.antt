@@ -15,13 +15,13 @@ use Rattle.deadlock.proofs.reach.reach_more.Statement.{statement}
 use Rattle.deadlock.proofs.reach.reach_more.Tie as tie
 
 abbrev Inv-loop : tie.InvT-loop
-Inv-loop nodes rows reached₀ k₀ reached k = (k ≤ nodes) × (num reached ≡ sweep (reaching (waitsOf nodes rows)) k (num reached₀))
+Inv-loop nodes rows reached₀ k₀ reached k = (num reached ≡ sweep (reaching (waitsOf nodes rows)) k (num reached₀)) × (k ≤ nodes)
 
 abbrev μ-loop : tie.MeasureT-loop
 μ-loop nodes rows reached₀ k₀ reached k = nodes - k
 
 loop-holds : tie.Need-loop-holds Inv-loop μ-loop
-loop-holds c = (search needs, sym (sweep-none _ _))
+loop-holds c = (sym (sweep-none _ _), search needs)
 
 row-at-requires : tie.Need-row-at-requires Inv-loop μ-loop
 row-at-requires c κs = omega arith
@@ -42,10 +42,10 @@ loop-less : tie.Need-loop-less Inv-loop μ-loop
 loop-less c = omega arith
 
 loop-again : tie.Need-loop-again Inv-loop μ-loop
-loop-again c = (omega arith, ⊎-elim (λ v. ap num (v .3) ∙ sweep-more _ _ _ _ _ (c .before .before .before .before .loop .inv .1) (joined _ _ _ (v .2 .ensures) (v .1 .ensures) (c .before .before .row-at .ensures) ∙ reaching-yes _ _ _ (flag (c .before .has .ensures) (v .0 .taken)))) (λ v. ap num (v .1) ∙ sweep-more _ _ _ _ _ (c .before .before .before .before .loop .inv .1) (reaching-no _ _ _ (flag (c .before .has .ensures) (v .0 .left)))) (c .if1 .came))
+loop-again c = (⊎-elim (λ v. ap num (v .3) ∙ sweep-more _ _ _ _ _ (c .before .before .before .before .loop .inv .0) (joined _ _ _ (v .2 .ensures) (v .1 .ensures) (c .before .before .row-at .ensures) ∙ reaching-yes _ _ _ (flag (c .before .has .ensures) (v .0 .taken)))) (λ v. ap num (v .1) ∙ sweep-more _ _ _ _ _ (c .before .before .before .before .loop .inv .0) (reaching-no _ _ _ (flag (c .before .has .ensures) (v .0 .left)))) (c .if1 .came), omega arith)
 
 returns : tie.Need-returns Inv-loop μ-loop
-returns c = sweep-whole _ _ _ _ _ (omega arith) (c .before .loop .inv .1)
+returns c = sweep-whole _ _ _ _ _ (omega arith) (c .before .loop .inv .0)
 
 pub reach-more-spec : {M : Type 1} → statement M
 reach-more-spec =

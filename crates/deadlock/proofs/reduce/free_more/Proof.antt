@@ -14,13 +14,13 @@ use Rattle.deadlock.proofs.reduce.free_more.Statement.{statement}
 use Rattle.deadlock.proofs.reduce.free_more.Tie as tie
 
 abbrev Inv-loop : tie.InvT-loop
-Inv-loop nodes rows freed₀ k₀ freed k = (k ≤ nodes) × (num freed ≡ sweep (freeing (waitsOf nodes rows)) k (num freed₀))
+Inv-loop nodes rows freed₀ k₀ freed k = (num freed ≡ sweep (freeing (waitsOf nodes rows)) k (num freed₀)) × (k ≤ nodes)
 
 abbrev μ-loop : tie.MeasureT-loop
 μ-loop nodes rows freed₀ k₀ freed k = nodes - k
 
 loop-holds : tie.Need-loop-holds Inv-loop μ-loop
-loop-holds c = (search needs, sym (sweep-none _ _))
+loop-holds c = (sym (sweep-none _ _), search needs)
 
 row-at-requires : tie.Need-row-at-requires Inv-loop μ-loop
 row-at-requires c κs = omega arith
@@ -38,10 +38,10 @@ loop-less : tie.Need-loop-less Inv-loop μ-loop
 loop-less c = omega arith
 
 loop-again : tie.Need-loop-again Inv-loop μ-loop
-loop-again c = (omega arith, ⊎-elim (λ v. ap num (v .2) ∙ sweep-more _ _ _ _ _ (c .before .before .before .before .loop .inv .1) (v .1 .ensures ∙ freeing-yes _ _ _ (met _ _ _ (c .before .holds .ensures) (c .before .before .row-at .ensures) (v .0 .taken)))) (λ v. ap num (v .1) ∙ sweep-more _ _ _ _ _ (c .before .before .before .before .loop .inv .1) (freeing-no _ _ _ (met _ _ _ (c .before .holds .ensures) (c .before .before .row-at .ensures) (v .0 .left)))) (c .if1 .came))
+loop-again c = (⊎-elim (λ v. ap num (v .2) ∙ sweep-more _ _ _ _ _ (c .before .before .before .before .loop .inv .0) (v .1 .ensures ∙ freeing-yes _ _ _ (met _ _ _ (c .before .holds .ensures) (c .before .before .row-at .ensures) (v .0 .taken)))) (λ v. ap num (v .1) ∙ sweep-more _ _ _ _ _ (c .before .before .before .before .loop .inv .0) (freeing-no _ _ _ (met _ _ _ (c .before .holds .ensures) (c .before .before .row-at .ensures) (v .0 .left)))) (c .if1 .came), omega arith)
 
 returns : tie.Need-returns Inv-loop μ-loop
-returns c = sweep-whole _ _ _ _ _ (omega arith) (c .before .loop .inv .1)
+returns c = sweep-whole _ _ _ _ _ (omega arith) (c .before .loop .inv .0)
 
 pub free-more-spec : {M : Type 1} → statement M
 free-more-spec =

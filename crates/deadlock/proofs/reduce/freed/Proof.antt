@@ -14,7 +14,7 @@ use Rattle.deadlock.proofs.reduce.freed.Statement.{statement}
 use Rattle.deadlock.proofs.reduce.freed.Tie as tie
 
 abbrev Inv-loop : tie.InvT-loop
-Inv-loop nodes rows g₀ t₀ g t = (t ≤ nodes) × (num g ≡ sweeps (freeing (waitsOf nodes rows)) nodes t 0)
+Inv-loop nodes rows g₀ t₀ g t = (num g ≡ sweeps (freeing (waitsOf nodes rows)) nodes t 0) × (t ≤ nodes)
 
 abbrev μ-loop : tie.MeasureT-loop
 μ-loop nodes rows g₀ t₀ g t = nodes - t
@@ -23,7 +23,7 @@ empty-requires : tie.Need-empty-requires Inv-loop μ-loop
 empty-requires c κs = search needs
 
 loop-holds : tie.Need-loop-holds Inv-loop μ-loop
-loop-holds c = (search needs, (c .empty .ensures) ∙ sym (sweeps-none _ _ _))
+loop-holds c = ((c .empty .ensures) ∙ sym (sweeps-none _ _ _), search needs)
 
 free-more-requires : tie.Need-free-more-requires Inv-loop μ-loop
 free-more-requires c κs = search needs
@@ -36,7 +36,7 @@ is-empty-requires c κs = search needs
 
 returns : tie.Need-returns Inv-loop μ-loop
 unfolding freed-of
-returns c = nobody-new _ (freeing-grows _) _ _ _ _ _ (omega arith) (c .before .before .before .before .before .loop .inv .1) (c .before .before .before .free-more .ensures) (sym (c .before .before .minus .ensures) ∙ eqb-true _ _ (flag (c .before .is-empty .ensures) (c .if1 .taken)))
+returns c = nobody-new _ (freeing-grows _) _ _ _ _ _ (omega arith) (c .before .before .before .before .before .loop .inv .0) (c .before .before .before .free-more .ensures) (sym (c .before .before .minus .ensures) ∙ eqb-true _ _ (flag (c .before .is-empty .ensures) (c .if1 .taken)))
 
 add-t : tie.Need-add-t Inv-loop μ-loop
 add-t c = omega arith
@@ -45,11 +45,11 @@ loop-less : tie.Need-loop-less Inv-loop μ-loop
 loop-less c = omega arith
 
 loop-again : tie.Need-loop-again Inv-loop μ-loop
-loop-again c = (omega arith, sweeps-more _ _ _ _ _ _ (c .before .before .before .before .before .loop .inv .1) (c .before .before .before .free-more .ensures))
+loop-again c = (sweeps-more _ _ _ _ _ _ (c .before .before .before .before .before .loop .inv .0) (c .before .before .before .free-more .ensures), omega arith)
 
 returns-2 : tie.Need-returns-2 Inv-loop μ-loop
 unfolding freed-of
-returns-2 c = let e : (c .before .loop .t) ≡ (c .before .before .before .before .args .nodes) = omega arith in sweeps-whole _ _ _ _ _ e (c .before .loop .inv .1)
+returns-2 c = let e : (c .before .loop .t) ≡ (c .before .before .before .before .args .nodes) = omega arith in sweeps-whole _ _ _ _ _ e (c .before .loop .inv .0)
 
 pub freed-spec : {M : Type 1} → statement M
 freed-spec =
