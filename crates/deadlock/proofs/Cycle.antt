@@ -1,8 +1,9 @@
 -- A cycle is no proof of a deadlock: the paper's first morning has cycles, and nobody in it is deadlocked. Assumes nothing.
 use mathlib.Core.Path.{_≡_, refl}
-use mathlib.Core.List.{List, [], _∷_}
-use mathlib.Core.List.List·Memᴰ.{List·Memᴰ·head as here}
-use Prim.Native.Nat.{ℕ}
+use mathlib.Core.List.{List, [], _∷_, List·Memᴰ}
+use mathlib.Core.List.List·Memᴰ.{List·Memᴰ·head as here, List·Memᴰ·tail as there}
+use Prim.Native.Nat.{ℕ, zero, suc, _<_}
+use native.Mathlib.Omega.{arith}
 use lib.Dec.{lit<}
 use Rattle.nodes.specs.Sets.{bit, has, union, meet, minus, single, with, below, inside, membersFrom, members, size, setOf}
 use Rattle.nodes.specs.Words.{num}
@@ -35,11 +36,25 @@ cycle : OnRing (waitsOf 7 firstMorning) 1
 unfolding rowAt laterOf outOf num bit union
 cycle = then {j = 2} refl (edge refl)
 
--- 6, 7, 4, 5, 3 and 2 are freed in this order
-freed-in-turn : Reduction (waitsOf 7 firstMorning) (1 ∷ 2 ∷ 4 ∷ 3 ∷ 6 ∷ 5 ∷ [])
-unfolding rowAt holdsOf liesIn num bit union meet inside membersFrom members size single with setOf
-freed-in-turn = (lit< tt, refl, (lit< tt, refl, (lit< tt, refl, (lit< tt, refl, (lit< tt, refl, (lit< tt, refl, tt))))))
+-- 6, 7, 4, 5, 3, 2 and 1 are freed in this order; the newest stands first, and a row is one less
+abbrev order : List ℕ
+order = 0 ∷ 1 ∷ 2 ∷ 4 ∷ 3 ∷ 6 ∷ 5 ∷ []
 
--- Theorem: node 1 of an accepted graph is on a cycle and is not deadlocked.
-pub cycle-no-deadlock : (checkOf 7 firstMorning ≡ Accepted) × OnRing (waitsOf 7 firstMorning) 1 × (Deadlocked (waitsOf 7 firstMorning) 1 → ⊥)
-cycle-no-deadlock = (accepted, cycle, λ d. d (1 ∷ 2 ∷ 4 ∷ 3 ∷ 6 ∷ 5 ∷ []) freed-in-turn (here refl))
+freed-in-turn : Reduction (waitsOf 7 firstMorning) order
+unfolding rowAt holdsOf liesIn num bit union meet inside membersFrom members size single with setOf
+freed-in-turn =
+    (lit< tt, refl, (lit< tt, refl, (lit< tt, refl, (lit< tt, refl, (lit< tt, refl, (lit< tt, refl, (lit< tt, refl, tt)))))))
+
+everybody : (i : ℕ) → i < 7 → List·Memᴰ i order
+everybody zero h = here refl
+everybody (suc zero) h = there (here refl)
+everybody (suc (suc zero)) h = there (there (here refl))
+everybody (suc (suc (suc zero))) h = there (there (there (there (here refl))))
+everybody (suc (suc (suc (suc zero)))) h = there (there (there (here refl)))
+everybody (suc (suc (suc (suc (suc zero))))) h = there (there (there (there (there (there (here refl))))))
+everybody (suc (suc (suc (suc (suc (suc zero)))))) h = there (there (there (there (there (here refl)))))
+everybody (suc (suc (suc (suc (suc (suc (suc i))))))) h = absurd (omega arith)
+
+-- Theorem: an accepted graph has a cycle, and nobody in it is deadlocked.
+pub cycle-no-deadlock : (checkOf 7 firstMorning ≡ Accepted) × OnRing (waitsOf 7 firstMorning) 1 × ((i : ℕ) → i < 7 → Deadlocked (waitsOf 7 firstMorning) i → ⊥)
+cycle-no-deadlock = (accepted, cycle, λ i h d. d order freed-in-turn (everybody i h))

@@ -7,6 +7,6 @@ pub mod Cases
 pub mod Writing
 pub mod Refused
 pub mod Answers
-pub mod Written
+pub mod Offered
 pub mod Unique
 pub mod Cycle

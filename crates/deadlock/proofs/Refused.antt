@@ -4,13 +4,12 @@ use mathlib.Core.Bool.{Bool, true, false, cond}
 use mathlib.Core.List.{List, [], _∷_, append-assoc}
 use mathlib.Core.List.List·Memᴰ.{List·Memᴰ·head as here}
 use Prim.Native.Nat.{ℕ, _≤_, _<_}
-use native.Mathlib.Omega.{arith}
 use borrow.Author.Tests.{leb-false, ltb-false}
 use Rattle.waits.specs.declared.numbers.Refusal.{Refusal}
 use Rattle.waits.specs.declared.numbers.Checked.{Checked}
 use Rattle.waits.specs.declared.numbers.Checked.the-variants.{Accepted, Refused}
 use Rattle.waits.specs.Numbers.{Line, line, graphLines, firstSaid, checkOf}
-use Rattle.waits.proofs.Table.{orElse, said-append, accepted-silent}
+use Rattle.waits.proofs.Table.{orElse, said-append, refused-not-accepted, accepted-silent}
 use Rattle.deadlock.specs.Refusals.{noNode, strangeEntry, smallRoom, askedLines, checkNodeOf, checkListOf, checkRoomOf}
 
 -- ---- one line more, after an answer to those before it
@@ -60,7 +59,7 @@ room-refused n rows i room = refused-before (line 15 0 (smallRoom n room)) (room
 -- ---- and back: what isn't refused
 or-both : (a b : Checked) → orElse a b ≡ Accepted → (a ≡ Accepted) × (b ≡ Accepted)
 or-both Accepted b e = (refl, e)
-or-both (Refused r) b e = absurd (let z : _≡_ {A = ℕ} 0 1 = cc e in omega arith)
+or-both (Refused r) b e = absurd (refused-not-accepted e)
 
 next-accepted : {a s : Checked} (l : Line) → Next a l s → s ≡ Accepted → (a ≡ Accepted) × (l .says ≡ false)
 next-accepted {a} l next e =

@@ -8,19 +8,18 @@ use waits::Checked;
 use waits::Refusal;
 use waits::check;
 
-// All deadlocked nodes of a graph.
 pub enum Found {
     Nodes(Set),
     Refused(Refusal),
 }
 
-// What is said of one claim.
 pub enum Claim {
     Deadlocked,
     NotDeadlocked,
     Refused(Refusal),
 }
 
+// All deadlocked nodes of a graph.
 pub fn all_deadlocked(nodes: usize, rows: &[u64]) -> Found
     ensures { λ r. ⌜ FoundSays nodes (now (rows .entry)) r ⌝ }
 {
@@ -31,6 +30,7 @@ pub fn all_deadlocked(nodes: usize, rows: &[u64]) -> Found
     Found::Nodes(stuck(nodes, rows))
 }
 
+// Whether the claim of node i is deadlocked.
 pub fn deadlocked(nodes: usize, rows: &[u64], i: Node) -> Claim
     ensures { λ r. ⌜ ClaimSays nodes (now (rows .entry)) (i .0) r ⌝ }
 {

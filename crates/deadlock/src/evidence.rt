@@ -24,7 +24,6 @@ use waits::Refusal;
 use waits::holds;
 use waits::row_at;
 
-// How many bytes were written.
 pub enum Written {
     Bytes(usize),
     Refused(Refusal),
@@ -65,6 +64,7 @@ fn write(s: Set, nodes: usize, room: &mut [u8]) -> usize
     at
 }
 
+// Writes the evidence for i, and says how many bytes it has. The room must have a byte for every node of the graph.
 pub fn write_evidence(nodes: usize, rows: &[u64], i: Node, room: &mut [u8]) -> Written
     ensures { λ r. ⌜ WrittenSays nodes (now (rows .entry)) (i .0) (now (room .entry)) (now (room .exit)) r ⌝ }
 {
@@ -120,6 +120,7 @@ fn list_passes(nodes: usize, rows: &[u64], i: Node, list: &[u8]) -> bool
     !some_holds(nodes, rows, list, outside)
 }
 
+// Whether a list passes as evidence for i, whoever wrote it.
 pub fn check_evidence(nodes: usize, rows: &[u64], i: Node, list: &[u8]) -> Judged
     ensures { λ r. ⌜ r ≡ judgedOf nodes (now (rows .entry)) (i .0) (now (list .entry)) ⌝ }
 {

@@ -14,6 +14,7 @@ pub enum Report {
     Refused(Refusal),
 }
 
+// Whether node i, if it is deadlocked, is in the ring or behind it.
 pub fn ring_report(nodes: usize, rows: &[u64], i: Node) -> Report
     ensures { λ r. ⌜ ReportSays nodes (now (rows .entry)) (i .0) r ⌝ }
 {

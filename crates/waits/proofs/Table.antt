@@ -32,7 +32,7 @@ said-append (l ∷ ls) ms = go (l .says) (said-append ls ms)
     go false ih = ih
 
 -- ---- accepted exactly if no line says so
-refused-not-accepted : {r : Refusal} → Refused r ≡ Accepted → ⊥
+pub refused-not-accepted : {r : Refusal} → Refused r ≡ Accepted → ⊥
 refused-not-accepted e = let z : _≡_ {A = ℕ} 0 1 = cc e in omega arith
 
 pub silent-accepted : (ls : List Line) → Silent ls → firstSaid ls ≡ Accepted
