@@ -10,6 +10,7 @@ use deadlock::Found;
 use deadlock::Report;
 use deadlock::Written;
 use nodes::Node;
+use nodes::PLACES;
 
 fn claim(nodes: usize, rows: &[u64], k: usize) {
     let said = deadlock::deadlocked(nodes, rows, Node(k));
@@ -32,7 +33,7 @@ fn ring(nodes: usize, rows: &[u64], k: usize) {
 
 // The room is as large as any graph needs.
 fn evidence(nodes: usize, rows: &[u64], k: usize) {
-    let mut room = [0u8; 64];
+    let mut room = [0u8; PLACES];
     let written = deadlock::write_evidence(nodes, rows, Node(k), &mut room);
     match written {
         Written::Bytes(count) => bytes(&room, count),

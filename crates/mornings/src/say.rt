@@ -1,5 +1,6 @@
 // Lines on standard output.
 use nodes::Node;
+use nodes::PLACES;
 use nodes::Set;
 use waits::Checked;
 use waits::Refusal;
@@ -25,7 +26,7 @@ pub fn refusal(r: Refusal) {
 // The members of a set, each after a space.
 pub fn members(s: Set) {
     let mut k: usize = 0;
-    while k < 64 {
+    while k < PLACES {
         if s.has(Node(k)) {
             text(b" ");
             number(k as u64);
