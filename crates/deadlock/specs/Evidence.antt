@@ -17,7 +17,8 @@ use Rattle.deadlock.specs.declared.evidence.Judged.{Judged}
 use Rattle.deadlock.specs.declared.evidence.Judged.the-variants.{Passes, Fails, Refused as Judged·Refused}
 use Rattle.deadlock.specs.Refusals.{checkListOf, checkRoomOf}
 
--- The evidence for i is every deadlocked node reachable from i, ascending; nobody if i isn't deadlocked.
+-- Evidence for i: all deadlocked nodes that i reaches, itself among them, in ascending order; none if i itself isn't
+-- deadlocked.
 pub record Evidence (w : Waits) (i : ℕ) (l : List ℕ) : Type 0 where
   pub ascends : Ascending l
   pub members : (j : ℕ) → List·Memᴰ j l ↔ (Deadlocked w i × Deadlocked w j × Reachable w i j)

@@ -12,15 +12,15 @@ use Rattle.waits.specs.Numbers.{Line, line, graphLines, firstSaid}
 unfoldable pub noNode : ℕ → ℕ → Bool
 noNode n i = leb n i
 
--- 14: an entry of the list names no node
+-- 14: some entry of the list isn't the number of a node
 unfoldable pub strangeEntry : ℕ → List ℕ → Bool
 strangeEntry n l = anyOf (noNode n) l
 
--- 15: the lent room is under the node count, whatever is needed of it
+-- 15: fewer bytes are lent than there are nodes, however few the evidence needs
 unfoldable pub smallRoom : ℕ → ℕ → Bool
 smallRoom n room = ltb room n
 
--- The graph; then 9: the node asked about doesn't exist; then what the question adds. None of these is of a row.
+-- The graph's own numbers; then 9: the question is about no node of it; then what the question adds. From 9 on none is of a row.
 abbrev pub askedLines : ℕ → List ℕ → ℕ → List Line → List Line
 askedLines n rows i more = graphLines n rows ++ line 9 0 (noNode n i) ∷ more
 

@@ -10,7 +10,7 @@ use Rattle.deadlock.specs.declared.ring.Report.{Report}
 use Rattle.deadlock.specs.declared.ring.Report.the-variants.{InRing, BehindRing, NotDeadlocked, Refused as Report·Refused}
 use Rattle.deadlock.specs.Refusals.{checkNodeOf}
 
--- a path of one or more edges leads from the node back to itself
+-- along one edge or more one comes from the node back to it
 abbrev pub OnRing : Waits → ℕ → Type 0
 OnRing w i = Path w i i
 
