@@ -7,7 +7,7 @@ use mathlib.Core.List.{List, [], _∷_, List·Memᴰ}
 use Prim.Native.Nat.{ℕ, _<_}
 use native.Mathlib.Omega.{arith}
 use Rattle.nodes.specs.Sets.{bit, In, Inside, with, below, keep, setOf}
-use Rattle.nodes.proofs.Bit.{bit-empty, bit-with-same, in-or-out, in-with, in-below, in-minus, inside-in, inside-member, inside-both, keep-grows, list-in, in-list}
+use Rattle.nodes.proofs.Bit.{bit-empty, bit-with-same, in-or-out, in-with, in-below, in-minus, inside-in, inside-member, same-members, keep-grows, list-in, in-list}
 use Rattle.waits.specs.Waits.{Waits, Lawful}
 use Rattle.waits.specs.Deadlocked.{Reduction, Deadlocked}
 use Rattle.deadlock.specs.Sweeps.{freeing, freed, stuck}
@@ -96,7 +96,7 @@ module _ (w : Waits) (law : Lawful w) where
 
   -- Theorem: no other set does.
   pub freed-unique : (s : ℕ) → ((i : ℕ) → In i s ↔ Freeable w i) → s ≡ freed w
-  freed-unique s f = inside-both s (freed w) (inside-in _ _ (λ i m. freed-iff i .1 (f i .0 m))) (inside-in _ _ (λ i m. f i .1 (freed-iff i .0 m)))
+  freed-unique s f = same-members s (freed w) (λ i. (λ m. freed-iff i .1 (f i .0 m), λ m. f i .1 (freed-iff i .0 m)))
 
   -- Theorem: a node is deadlocked exactly if it isn't in that set.
   pub deadlocked-iff : (i : ℕ) → Deadlocked w i ↔ (In i (freed w) → ⊥)

@@ -78,7 +78,7 @@ module _ (visit : ℕ → ℕ → ℕ) (grows : (k g : ℕ) → Inside g (visit 
       let still : sweep visit n s ≡ s = sym f ∙ inside-both r s (minus-none r s z) (rw f (sweep-grows n s)) in
       e ∙ sym (sweeps-rest visit n t g n (rw (← e) still) h)
 
-  -- then no visit of it did
+  -- a sweep that changed nothing: no visit of it did
   rest-visit : (n g : ℕ) → sweep visit n g ≡ g → (k : ℕ) → k < n → visit k g ≡ g
   rest-visit n g e k h = sweep-more visit k g g (visit k g) (sym (at k (omega arith))) refl ∙ at (k + 1) (omega arith)
     where

@@ -112,9 +112,9 @@ fn list_passes(nodes: usize, rows: &[u64], i: Node, list: &[u8]) -> bool
     ensures { λ r. ⌜ r ≡ passes (waitsOf nodes (now (rows .entry))) (i .0) (now (list .entry)) ⌝ }
 {
     let all = Set::below(nodes);
-    let named = set_of(nodes, list);
-    let outside = all.minus(named);
-    if !named.has(i) {
+    let members = set_of(nodes, list);
+    let outside = all.minus(members);
+    if !members.has(i) {
         return false;
     }
     !some_holds(nodes, rows, list, outside)

@@ -3,6 +3,7 @@ mod claims;
 mod graphs;
 mod lists;
 mod mornings;
+mod questions;
 mod refusals;
 mod say;
 
@@ -15,9 +16,9 @@ fn main() {
     lists::third();
     lists::twelfth();
     say::text(b"\nQuestions\n");
-    lists::refused();
-    lists::rooms();
-    lists::bad_row();
+    questions::refused();
+    questions::rooms();
+    questions::bad_row();
     say::text(b"\nBad graphs\n");
     refusals::counts();
     refusals::rows();

@@ -15,6 +15,13 @@ pub fn number(n: u64) {
     io::print_decimal(OUT, n);
 }
 
+// What node a line is about.
+pub fn about(node: usize) {
+    text(b" for ");
+    number(node as u64);
+    text(b": ");
+}
+
 pub fn refusal(r: Refusal) {
     text(b"refused ");
     number(r.number);

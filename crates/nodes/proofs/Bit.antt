@@ -263,6 +263,10 @@ inside-trans a b c f g k = le-trans (f k) (g k)
 pub inside-both : (a b : ℕ) → Inside a b → Inside b a → a ≡ b
 inside-both a b f g = same a b (λ k. omega (arith, f k, g k))
 
+-- a set is what its members are
+pub same-members : (a b : ℕ) → ((k : ℕ) → In k a ↔ In k b) → a ≡ b
+same-members a b f = inside-both a b (inside-in a b (λ k. f k .0)) (inside-in b a (λ k. f k .1))
+
 -- nobody but nodes below n
 pub inside-lt : (n s : ℕ) → Inside s (below n) → s < 2 ^ n
 inside-lt n s h =
@@ -344,8 +348,7 @@ in-list (x ∷ l) k i = elim (ℕ-discrete k x) [
 
 -- a list of numbers is as a set what its members are
 pub same-list : (l m : List ℕ) → ((k : ℕ) → List·Memᴰ k l ↔ List·Memᴰ k m) → setOf l ≡ setOf m
-same-list l m f =
-    inside-both _ _ (inside-in _ _ (λ k i. list-in m k (f k .0 (in-list l k i)))) (inside-in _ _ (λ k i. list-in l k (f k .1 (in-list m k i))))
+same-list l m f = same-members _ _ (λ k. (λ i. list-in m k (f k .0 (in-list l k i)), λ i. list-in l k (f k .1 (in-list m k i))))
 
 -- one number more at the end
 pub list-snoc : (l : List ℕ) (k : ℕ) → with (setOf l) k ≡ setOf (l ++ k ∷ [])
