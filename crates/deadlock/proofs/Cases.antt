@@ -10,13 +10,13 @@ use lib.Seq.{take-suc}
 use borrow.Author.Tests.{leb-false, le-leb, lt-leb}
 use Rattle.lemmas.specs.Lists.{anyOf}
 use Rattle.lemmas.proofs.Lists.{none-at}
-use Rattle.nodes.specs.Sets.{has, union, minus, with, below, setOf}
+use Rattle.nodes.specs.Sets.{has, union, minus, with, below, setOf, noNode}
 use Rattle.nodes.proofs.Bit.{list-snoc}
 use Rattle.waits.specs.declared.rows.Row.{Row}
 use Rattle.waits.specs.Waits.{Waits}
 use Rattle.waits.specs.Deadlocked.{outside}
 use Rattle.waits.specs.Rows.{rowAt, outOf, holdsOf}
-use Rattle.deadlock.specs.Refusals.{noNode, strangeEntry}
+use Rattle.deadlock.specs.Refusals.{strangeEntry}
 
 -- ---- rows
 pub met : (rows : List ℕ) (k g : ℕ) {row : Row} {r b : Bool} → r ≡ holdsOf row g → row ≡ rowAt rows k → r ≡ b → holdsOf (rowAt rows k) g ≡ b

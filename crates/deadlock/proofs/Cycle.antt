@@ -12,7 +12,7 @@ use Rattle.waits.specs.Waits.{edgesTo, edges}
 use Rattle.waits.specs.Deadlocked.{Reduction, Deadlocked}
 use Rattle.waits.specs.Deadlocked.Path.{edge, then}
 use Rattle.waits.specs.Rows.{rowAt, laterOf, outOf, liesIn, holdsOf, waitsOf}
-use Rattle.waits.specs.Numbers.{wrongCount, strangeKind, strangeMember, waitsOnItself, wrongThreshold, extraSet, badSets, manyEdges, checkOf}
+use Rattle.waits.specs.Numbers.{strangeCount, wrongCount, strangeKind, strangeMember, waitsOnItself, wrongThreshold, extraSet, badSets, manyEdges, checkOf}
 use Rattle.deadlock.specs.Ring.{OnRing}
 
 -- f1 = 4 ∨ 2, f2 = 3 ∧ 4 ∧ 5, f3 = 2 ∨ (6 ∧ 7), f4 = 7, f5 = 1 ∨ 7, f6 active, f7 = 6; a row is one less
@@ -28,7 +28,7 @@ firstMorning =
     ∷ []
 
 accepted : checkOf 7 firstMorning ≡ Accepted
-unfolding checkOf wrongCount strangeKind strangeMember waitsOnItself wrongThreshold extraSet badSets manyEdges edgesTo edges rowAt laterOf outOf liesIn num bit has union meet minus single with below inside membersFrom members size
+unfolding checkOf strangeCount wrongCount strangeKind strangeMember waitsOnItself wrongThreshold extraSet badSets manyEdges edgesTo edges rowAt laterOf outOf liesIn num bit has union meet minus single with below inside membersFrom members size
 accepted = refl
 
 -- 2 waits on 3, and 3 on 2

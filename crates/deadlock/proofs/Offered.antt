@@ -9,18 +9,20 @@ use lib.Seq.{take-at}
 use borrow.Author.Tests.{leb-true}
 use Rattle.lemmas.proofs.Tests.{not-true-false}
 use Rattle.lemmas.proofs.Lists.{any-some}
+use Rattle.nodes.specs.Sets.{noNode}
 use Rattle.waits.specs.declared.numbers.Checked.the-variants.{Accepted}
 use Rattle.waits.specs.Deadlocked.{Deadlocked}
 use Rattle.waits.specs.Rows.{waitsOf}
 use Rattle.waits.specs.Numbers.{line}
 use Rattle.waits.proofs.Lawful.{accepted-lawful}
+use Rattle.waits.proofs.Next.{not-refused}
 use Rattle.deadlock.specs.declared.evidence.Written.the-variants.{Bytes}
 use Rattle.deadlock.specs.declared.evidence.Judged.the-variants.{Passes}
-use Rattle.deadlock.specs.Refusals.{noNode, strangeEntry, checkNodeOf, checkListOf}
+use Rattle.deadlock.specs.Refusals.{strangeEntry, checkNodeOf, checkListOf}
 use Rattle.deadlock.specs.Evidence.{Evidence, WrittenSays, judgedOf}
 use Rattle.deadlock.proofs.Paths.{reachable-node}
 use Rattle.deadlock.proofs.Passing.{reachable-passes}
-use Rattle.deadlock.proofs.Refused.{list-next, not-refused, node-accepted, room-accepted}
+use Rattle.deadlock.proofs.Refused.{list-next, node-accepted, room-accepted}
 use Rattle.deadlock.proofs.Answers.{judged-passes}
 
 entries-known : (n : ℕ) (l : List ℕ) → ((j : ℕ) → List·Memᴰ j l → j < n) → strangeEntry n l ≡ false

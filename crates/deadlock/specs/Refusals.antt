@@ -3,14 +3,11 @@
 use mathlib.Core.Bool.{Bool}
 use mathlib.Core.List.{List, [], _∷_, _++_}
 use Prim.Native.Nat.{ℕ}
-use lib.Dec.{leb, ltb}
+use lib.Dec.{ltb}
 use Rattle.lemmas.specs.Lists.{anyOf}
+use Rattle.nodes.specs.Sets.{noNode}
 use Rattle.waits.specs.declared.numbers.Checked.{Checked}
 use Rattle.waits.specs.Numbers.{Line, line, graphLines, firstSaid}
-
--- no node has this number
-unfoldable pub noNode : ℕ → ℕ → Bool
-noNode n i = leb n i
 
 -- 14: some entry of the list isn't the number of a node
 unfoldable pub strangeEntry : ℕ → List ℕ → Bool

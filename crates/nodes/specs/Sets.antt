@@ -4,9 +4,13 @@ use mathlib.Core.Path.{_≡_}
 use mathlib.Core.Bool.{Bool, true, false}
 use mathlib.Core.List.{List, [], _∷_, _++_}
 use Prim.Native.Nat.{ℕ, zero, suc, _-_, _/_, _%_, _^_, _≤_}
-use lib.Dec.{eqb}
+use lib.Dec.{leb, eqb}
 use lib.Bits.{bitAnd, bitOr, bitXor}
 use lib.ListN.{length}
+
+-- of n nodes, numbered from 0, none has this number
+unfoldable pub noNode : ℕ → ℕ → Bool
+noNode n i = leb n i
 
 -- the digit k of s: 1 where k is in s, 0 where not
 unfoldable pub bit : ℕ → ℕ → ℕ

@@ -14,14 +14,16 @@ use Rattle.waits.specs.declared.rows.Row.{Row}
 use Rattle.waits.specs.declared.numbers.Checked.{Checked}
 use Rattle.waits.specs.Waits.{Waits, edgesTo, edges}
 use Rattle.waits.specs.Rows.{rowSize, rowAt, outOf, liesIn, waitsOf}
-use Rattle.waits.specs.Numbers.{mostEdges, wrongCount, strangeMember, waitsOnItself, nested, manyEdges, checkRowOf}
+use Rattle.waits.specs.Numbers.{mostEdges, strangeCount, wrongCount, strangeMember, waitsOnItself, nested, manyEdges, checkRowOf}
 
--- what a right count says
+-- what a count that isn't strange says, and a right one
+pub count-fits : (n : ℕ) → strangeCount n ≡ false → n ≤ places
+unfolding strangeCount
+count-fits n e = ltb-false places n (or-right-false (eqb n 0) _ e)
+
 pub right-count : (n m : ℕ) → wrongCount n m ≡ false → (n ≤ places) × (m ≡ n * rowSize)
 unfolding wrongCount
-right-count n m e =
-    let f : (ltb places n || not (eqb m (n * rowSize))) ≡ false = or-right-false (eqb n 0) _ e in
-    (ltb-false places n (or-left-false (ltb places n) _ f), eqb-true m (n * rowSize) (not-false _ (or-right-false (ltb places n) _ f)))
+right-count n m e = (count-fits n (or-left-false (strangeCount n) _ e), eqb-true m (n * rowSize) (not-false _ (or-right-false (strangeCount n) _ e)))
 
 -- a node has another in OUT, from what the callees said
 pub waits-on : (rows : List ℕ) (k j : ℕ) {row : Row} {o : ℕ} {r b : Bool} → r ≡ has o j → o ≡ outOf row → row ≡ rowAt rows k → r ≡ b

@@ -1,6 +1,7 @@
 -- The laws of the graph of waits.
 pub mod Cases
 pub mod Table
+pub mod Next
 pub mod Left
 pub mod Condition
 pub mod Lawful

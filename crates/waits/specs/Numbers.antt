@@ -20,9 +20,13 @@ use Rattle.waits.specs.Rows.{rowSize, rowAt, setsOf, laterOf, outOf, lie
 abbrev pub mostEdges : ℕ
 mostEdges = 512
 
--- 1: there is no node, there are more than a set has places for, or not six numbers to each
+-- there is no node, or there are more than a set has places for
+unfoldable pub strangeCount : ℕ → Bool
+strangeCount n = eqb n 0 || ltb places n
+
+-- 1: such a count, or not six numbers to each node
 unfoldable pub wrongCount : ℕ → ℕ → Bool
-wrongCount n numbers = eqb n 0 || (ltb places n || not (eqb numbers (n * rowSize)))
+wrongCount n numbers = strangeCount n || not (eqb numbers (n * rowSize))
 
 -- 2: there is no such kind
 unfoldable pub strangeKind : Row → Bool

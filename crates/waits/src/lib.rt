@@ -8,6 +8,7 @@ pub use numbers::Refusal;
 pub use numbers::check;
 pub use numbers::check_row;
 pub use numbers::refused;
+pub use numbers::strange_count;
 pub use rows::ROW;
 pub use rows::Row;
 pub use rows::edges;

@@ -4,7 +4,7 @@ ghost use mathlib.Core.Bool.{_||_};
 ghost use Prim.Native.Nat.{_≤_};
 ghost use Rattle.nodes.specs.Words.{num, places};
 ghost use Rattle.waits.specs.Rows.{setsOf, liesIn};
-ghost use Rattle.waits.specs.Numbers.{wrongCount, wrongThreshold, extraSet, nested, badSets, checkRowOf, checkOf};
+ghost use Rattle.waits.specs.Numbers.{strangeCount, wrongCount, wrongThreshold, extraSet, nested, badSets, checkRowOf, checkOf};
 use crate::rows::ROW;
 use crate::rows::Row;
 use crate::rows::edges;
@@ -39,14 +39,21 @@ pub fn refused(number: u64, row: Node) -> Checked
     })
 }
 
-// Number 1: the count of nodes, or of the numbers in their rows.
-fn wrong_count(nodes: usize, numbers: usize) -> bool
-    ensures { λ r. ⌜ r ≡ wrongCount nodes numbers ⌝ }
+// Whether no graph has this many nodes.
+pub fn strange_count(nodes: usize) -> bool
+    ensures { λ r. ⌜ r ≡ strangeCount nodes ⌝ }
 {
     if nodes == 0 {
         return true;
     }
-    if PLACES < nodes {
+    PLACES < nodes
+}
+
+// Number 1: the count of nodes, or of the numbers in their rows.
+fn wrong_count(nodes: usize, numbers: usize) -> bool
+    ensures { λ r. ⌜ r ≡ wrongCount nodes numbers ⌝ }
+{
+    if strange_count(nodes) {
         return true;
     }
     numbers != nodes * ROW

@@ -2,7 +2,8 @@
 use mathlib.Core.Path.{sym, _∙_}
 use borrow.Author.Needs.{needs}
 use Rattle.lemmas.proofs.Cases.{flag}
-use Rattle.deadlock.proofs.Refused.{list-next, list-refused, refused-here, not-refused}
+use Rattle.waits.proofs.Next.{refused-here, not-refused}
+use Rattle.deadlock.proofs.Refused.{list-next, list-refused}
 use Rattle.deadlock.proofs.refusals.check_list.Statement.{statement}
 use Rattle.deadlock.proofs.refusals.check_list.Tie as tie
 

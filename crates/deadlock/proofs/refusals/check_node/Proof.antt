@@ -1,7 +1,8 @@
 -- `check_node` meets its contract. Assumes nothing.
 use mathlib.Core.Path.{refl, sym, _∙_}
 use borrow.Author.Needs.{needs}
-use Rattle.deadlock.proofs.Refused.{node-next, node-refused, refused-here, not-refused}
+use Rattle.waits.proofs.Next.{refused-here, not-refused}
+use Rattle.deadlock.proofs.Refused.{node-next, node-refused}
 use Rattle.deadlock.proofs.Cases.{entry-strange, entry-known}
 use Rattle.deadlock.proofs.refusals.check_node.Statement.{statement}
 use Rattle.deadlock.proofs.refusals.check_node.Tie as tie

@@ -3,7 +3,8 @@ use mathlib.Core.Path.{sym, _∙_}
 use borrow.Author.Tests.{lt-ltb, le-ltb}
 use borrow.Author.Needs.{needs}
 use Rattle.deadlock.specs.Refusals.{smallRoom}
-use Rattle.deadlock.proofs.Refused.{room-next, room-refused, refused-here, not-refused}
+use Rattle.waits.proofs.Next.{refused-here, not-refused}
+use Rattle.deadlock.proofs.Refused.{room-next, room-refused}
 use Rattle.deadlock.proofs.refusals.check_room.Statement.{statement}
 use Rattle.deadlock.proofs.refusals.check_room.Tie as tie
 

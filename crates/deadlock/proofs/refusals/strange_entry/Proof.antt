@@ -5,7 +5,8 @@ use native.Mathlib.Omega.{arith}
 use lib.ListN.{length}
 use borrow.Author.Needs.{needs}
 use Rattle.lemmas.proofs.Lists.{AnyLeft, any-passed, any-found, any-ended}
-use Rattle.deadlock.specs.Refusals.{noNode, strangeEntry}
+use Rattle.nodes.specs.Sets.{noNode}
+use Rattle.deadlock.specs.Refusals.{strangeEntry}
 use Rattle.deadlock.proofs.Cases.{entry-strange, entry-known}
 use Rattle.deadlock.proofs.refusals.strange_entry.Statement.{statement}
 use Rattle.deadlock.proofs.refusals.strange_entry.Tie as tie

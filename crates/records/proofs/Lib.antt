@@ -1,0 +1,2 @@
+-- The laws of records and messages.
+pub mod Views
