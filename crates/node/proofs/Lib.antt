@@ -1,4 +1,3 @@
 -- The laws of one controller.
-pub mod Said
-pub mod Fits
 pub mod Refused
+pub mod Whole

@@ -14,6 +14,7 @@ use Rattle.nodes.specs.Words.{places}
 use Rattle.records.specs.declared.messages.Message.{Message}
 use Rattle.records.specs.Messages.{kinds, strangeMessage}
 use Rattle.records.specs.Records.{State, Fitting, strangeSet, strangeRecord}
+use Rattle.records.proofs.Fits.{record-fits}
 use Rattle.waits.specs.declared.rows.Row.{Row}
 use Rattle.waits.specs.declared.numbers.Refusal.{Refusal}
 use Rattle.waits.specs.declared.numbers.Checked.{Checked}
@@ -24,7 +25,6 @@ use Rattle.waits.proofs.Cases.{count-fits}
 use Rattle.waits.proofs.Table.{accepted-silent}
 use Rattle.waits.proofs.Next.{Next, next, refused-before, next-accepted}
 use Rattle.node.specs.Refusals.{wrongOwn, strangeKept, cannotOpen, ownLines, keptLines, checkOwnOf, checkKeptOf, checkOpenOf, checkDeliverOf}
-use Rattle.node.proofs.Fits.{record-fits}
 
 -- what a right count says
 pub right-own : (n numbers : ℕ) → wrongOwn n numbers ≡ false → (n ≤ places) × (numbers ≡ rowSize)

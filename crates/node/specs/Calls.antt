@@ -7,8 +7,8 @@ use Rattle.records.specs.Records.{State}
 use Rattle.waits.specs.declared.numbers.Checked.{Checked}
 use Rattle.waits.specs.declared.numbers.Checked.the-variants.{Accepted, Refused}
 use Rattle.waits.specs.Rows.{rowAt, outOf, holdsOf}
-use Rattle.node.specs.declared.answers.Answer.the-variants.{Refused as Answer·Refused}
-use Rattle.node.specs.Step.{Seen, Outcome, still, openRound, receive}
+use Rattle.step.specs.declared.answers.Answer.the-variants.{Refused as Answer·Refused}
+use Rattle.step.specs.Step.{Seen, Outcome, still, openRound, receive}
 use Rattle.node.specs.Refusals.{checkOpenOf, checkDeliverOf}
 
 -- what a node sees that is told its own number, its six row numbers and its IN

@@ -1,6 +1,3 @@
--- What one controller does and answers, by itself.
-pub mod Answers
-pub mod Step
+-- What one controller refuses, and its two calls.
 pub mod Refusals
-pub mod Views
 pub mod Calls

@@ -1,2 +1,3 @@
 -- The laws of records and messages.
 pub mod Views
+pub mod Fits

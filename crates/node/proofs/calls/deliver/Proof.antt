@@ -1,8 +1,8 @@
-use Rattle.node.proofs.Said.{received-as}
+use Rattle.node.proofs.Whole.{received-as}
 use Rattle.node.proofs.Refused.{deliver-accepted}
-use Rattle.node.proofs.Said.{own-row, call-refused, call-accepted}
+use Rattle.node.proofs.Whole.{own-row, call-refused, call-accepted}
 use Rattle.node.specs.Calls.{deliverOf}
-use Rattle.node.specs.Step.{Seen, receive}
+use Rattle.step.specs.Step.{Seen, receive}
 use native.Mathlib.Omega.{arith}
 use mathlib.Core.Path.{sym, ap, _∙_}
 use borrow.Author.Needs.{needs}
@@ -10,8 +10,6 @@ use Rattle.node.proofs.calls.deliver.Statement.{statement}
 use Rattle.node.proofs.calls.deliver.Tie as tie
 use Rattle.node.proofs.calls.deliver.Reads as reads
 use Rattle.node.proofs.calls.deliver.Lts as lts
-use Rattle.node.proofs.calls.receive.Reads as receive-reads
-use Rattle.node.proofs.calls.still.Reads as still-reads
 use Rattle.node.proofs.refusals.check_deliver.Reads as check-deliver-reads
 use Rattle.waits.proofs.row_at.Reads as row-at-reads
 

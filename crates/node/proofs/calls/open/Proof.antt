@@ -1,8 +1,8 @@
-use Rattle.node.proofs.Said.{opened-as}
+use Rattle.node.proofs.Whole.{opened-as}
 use Rattle.node.proofs.Refused.{open-accepted}
-use Rattle.node.proofs.Said.{own-row, call-refused, call-accepted}
+use Rattle.node.proofs.Whole.{own-row, call-refused, call-accepted}
 use Rattle.node.specs.Calls.{openOf}
-use Rattle.node.specs.Step.{Seen, openRound}
+use Rattle.step.specs.Step.{Seen, openRound}
 use native.Mathlib.Omega.{arith}
 use mathlib.Core.Path.{sym, ap, _∙_}
 use borrow.Author.Needs.{needs}
@@ -10,8 +10,6 @@ use Rattle.node.proofs.calls.open.Statement.{statement}
 use Rattle.node.proofs.calls.open.Tie as tie
 use Rattle.node.proofs.calls.open.Reads as reads
 use Rattle.node.proofs.calls.open.Lts as lts
-use Rattle.node.proofs.calls.open_round.Reads as open-round-reads
-use Rattle.node.proofs.calls.still.Reads as still-reads
 use Rattle.node.proofs.refusals.check_open.Reads as check-open-reads
 use Rattle.waits.proofs.row_at.Reads as row-at-reads
 

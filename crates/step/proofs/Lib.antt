@@ -1,0 +1,3 @@
+-- The laws of a step.
+pub mod Said
+pub mod Fits

@@ -1,0 +1,4 @@
+-- How one node behaves, and what it answers.
+pub mod Answers
+pub mod Step
+pub mod Views
