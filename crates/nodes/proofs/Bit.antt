@@ -189,11 +189,14 @@ pub with-union : (s k : ℕ) → with s k ≡ union s (single k)
 unfolding with
 with-union s k = refl
 
+pub bit-with : (s k j : ℕ) → bit (with s k) j ≡ max (bit s j) (bit (single k) j)
+bit-with s k j = ap (λ (x : ℕ). bit x j) (with-union s k) ∙ bit-union s (single k) j
+
 pub bit-with-same : (s k : ℕ) → bit (with s k) k ≡ 1
-bit-with-same s k = rw (with-union s k) (omega (arith, bit-union s (single k) k, bit-single-same k, bit-le s k))
+bit-with-same s k = omega (arith, bit-with s k k, bit-single-same k, bit-le s k)
 
 pub bit-with-other : (s k j : ℕ) → (j ≡ k → ⊥) → bit (with s k) j ≡ bit s j
-bit-with-other s k j ne = rw (with-union s k) (omega (arith, bit-union s (single k) j, bit-single-other k j ne))
+bit-with-other s k j ne = omega (arith, bit-with s k j, bit-single-other k j ne)
 
 pub in-with : (s k j : ℕ) → In j (with s k) ↔ (In j s ⊎ (j ≡ k))
 in-with s k j = (
@@ -203,6 +206,13 @@ in-with s k j = (
   where
     inside-with : In j s → In j (with s k)
     inside-with i = rw (with-union s k) (in-union s (single k) j .1 (inl i))
+
+-- no set without k has a member with k alone
+pub single-apart : (s k j : ℕ) → bit s k ≡ 0 → min (bit s j) (bit (single k) j) ≡ 0
+single-apart s k j z = elim (ℕ-discrete j k) [
+  | yes e ↦ let f : bit s j ≡ 0 = ap (bit s) e ∙ z in omega arith
+  | no d ↦ omega (arith, bit-single-other k j d)
+]
 
 pub with-lt : (w s k : ℕ) → s < 2 ^ w → k < w → with s k < 2 ^ w
 unfolding with single

@@ -2,3 +2,4 @@
 pub mod Answers
 pub mod Step
 pub mod Views
+pub mod Sent

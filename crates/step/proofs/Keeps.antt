@@ -1,0 +1,241 @@
+-- One step of a record that can come about: what it is said to have sent grows by what it sends, and the next record can come
+-- about too. Assumes nothing.
+use mathlib.Core.Path.{_≡_, refl, sym, ap, _∙_, subst}
+use mathlib.Core.Bool.{Bool, true, false, cond, not, _&&_, _||_, true≢false}
+use mathlib.Core.Logic.{_⊎_, inl, inr, ⊎-elim}
+use Prim.Native.Nat.{ℕ, _≤_, zero-le}
+use native.Mathlib.Nat.{le-refl}
+use native.Mathlib.Omega.{arith}
+use borrow.Author.Tests.{not-true, not-false}
+use Rattle.lemmas.proofs.Tests.{not-both, true-or-false, and-intro, and-left, and-right, or-intro-right, or-intro-left, or-cases}
+use Rattle.nodes.specs.Sets.{bit, In, Inside, union, minus, single, with, inside}
+use Rattle.nodes.proofs.Bit.{bit-le, bit-empty, bit-with, bit-with-same, bit-single-same, inside-of, of-inside, inside-trans, inside-in, with-grows, in-with}
+use Rattle.records.specs.declared.causes.Why.{Why}
+use Rattle.records.specs.declared.causes.Why.the-variants.{Not, Itself, By}
+use Rattle.records.specs.declared.messages.Kind.{Kind}
+use Rattle.records.specs.declared.messages.Kind.the-variants.{Notify, Grant, Ack, Done}
+use Rattle.records.specs.Causes.{happened, byItself, senderOf}
+use Rattle.records.specs.Records.{State, called, free, withCall, withFreed, hadOf, withHad, markOf}
+use Rattle.step.specs.Step.{Seen, Receivers, Move, active, acked, complete, nobody, sending, move, answerWith, newly, owed, settle, neighbours}
+use Rattle.step.specs.Sent.{answered, sent, toWhom, Adds, Grows, Sound, Formed}
+use Rattle.step.proofs.Held.{adds-none, adds-all, adds-late, adds-once, adds-held, adds-still}
+
+-- what a move comes to: it grows what is said to be sent, and leaves a record that can come about
+pub record Keeps (o : Seen) (before : State) (m : Move) : Type 0 where
+  pub grows : Grows o before (settle o before m .sends) (m .state)
+  pub formed : Formed o (m .state)
+
+-- ---- what was not so
+pub not-happened : (w : Why) → happened w ≡ false → senderOf w ≡ 0
+not-happened Not e = refl
+not-happened Itself e = absurd (true≢false e)
+not-happened (By k) e = absurd (true≢false e)
+
+not-acked : (o : Seen) (s : State) → free s ≡ false → acked o s ≡ false
+unfolding acked
+not-acked o s e = ap (λ (b : Bool). b && inside (o .ins) (s .ack)) e
+
+not-complete : (o : Seen) (s : State) → called s ≡ false → complete o s ≡ false
+unfolding complete
+not-complete o s e = ap (λ (b : Bool). b && (inside (o .out) (s .done) && (not (active o) || inside (o .ins) (s .ack)))) e
+
+-- ---- more that is in never undoes what was awaited
+inside-more : (x a b : ℕ) → Inside a b → inside x a ≡ true → inside x b ≡ true
+inside-more x a b i e = of-inside x b (inside-trans x a b (inside-of x a e) i)
+
+acked-more : (o : Seen) (s : State) (a : ℕ) → acked o s ≡ true → acked o (markOf Ack a s) ≡ true
+unfolding acked
+acked-more o s a e =
+    and-intro (free s) _ (and-left (free s) _ e) (inside-more (o .ins) (s .ack) (with (s .ack) a) (with-grows (s .ack) a) (and-right (free s) _ e))
+
+complete-more : (o : Seen) (s : State) (ack done : ℕ) → Inside (s .ack) ack → Inside (s .done) done → complete o s ≡ true
+    → complete o (withHad Ack ack (withHad Done done s)) ≡ true
+unfolding complete
+complete-more o s ack done i j e =
+    let f = and-right (called s) _ e in
+    and-intro (called s) _ (and-left (called s) _ e)
+    (and-intro (inside (o .out) done) _ (inside-more (o .out) (s .done) done j (and-left (inside (o .out) (s .done)) _ f))
+    (⊎-elim
+    (λ (n : not (active o) ≡ true). or-intro-left (not (active o)) _ n)
+    (λ (n : inside (o .ins) (s .ack) ≡ true). or-intro-right (not (active o)) _ (inside-more (o .ins) (s .ack) ack i n))
+    (or-cases (not (active o)) _ (and-right (inside (o .out) (s .done)) _ f))))
+
+-- ---- senders
+pub one-inside : (h a : ℕ) → Inside (single a) (with h a)
+one-inside h a k = omega (arith, bit-with h a k)
+
+pub none-inside : (h : ℕ) → Inside 0 h
+none-inside h k = omega (arith, bit-empty k)
+
+nobody-in : (a : ℕ) {n : ℕ} → n ≡ 0 → In a n → ⊥
+nobody-in a e m = let q : bit 0 a ≡ 1 = rw e at m in omega (arith, bit-empty a)
+
+pub more-inside : (h a n : ℕ) → Inside h n → In a n → Inside (with h a) n
+more-inside h a n i m = inside-in (with h a) n (λ j q. ⊎-elim (λ (e : In j h). omega (arith, i j, bit-le n j)) (λ (e : j ≡ a). rw e m) (in-with h a j .0 q))
+
+by-kind : (o : Seen) (s : State) → Inside (s .notify) (o .ins) → Inside (s .grant) (o .out) → Inside (s .ack) (o .ins) → Inside (s .done) (o .out)
+    → (k : Kind) → Inside (hadOf k s) (neighbours o k)
+by-kind o s n g a d Notify = n
+by-kind o s n g a d Grant = g
+by-kind o s n g a d Ack = a
+by-kind o s n g a d Done = d
+
+-- kind by kind
+module _ (o : Seen) (s : State) (m : Move) where
+  abbrev Grew : Kind → Type 0
+  Grew k = Adds (sent o s k) (toWhom (settle o s m .sends) k) (sent o (m .state) k)
+
+  grown : Grew Notify → Grew Grant → Grew Ack → Grew Done → Grows o s (settle o s m .sends) (m .state)
+  grown n g a d Notify = n
+  grown n g a d Grant = g
+  grown n g a d Ack = a
+  grown n g a d Done = d
+
+-- a GRANT that doesn't free leaves a node as free as its condition says
+as-met : (o : Seen) → Sound o → (f : Bool) (g a : ℕ) → f ≡ o .holds g → (not f && o .holds (with g a)) ≡ false → f ≡ o .holds (with g a)
+as-met o sound true g a e n = sym (sound .monotone g (with g a) (with-grows g a) (sym e))
+as-met o sound false g a e n = sym n
+
+module _ (o : Seen) (s : State) (w : Formed o s) where
+  -- ---- NOTIFY to a node that is called
+  pub notified-keeps : (a : ℕ) → In a (o .ins) → bit (s .notify) a ≡ 0 → called s ≡ true → Keeps o s (answerWith Done a (markOf Notify a s))
+  unfolding settle owed acked complete
+  notified-keeps a m z c = record {
+    grows = grown o s (answerWith Done a (markOf Notify a s))
+      (adds-none _)
+      (adds-none _)
+      (adds-late (s .grant) (senderOf (s .freed)) (w .freer) (acked o s) (acked o s) (λ e. e))
+      (adds-once (s .notify) (senderOf (s .call)) (w .caller) a z (complete o s));
+    formed = record {
+      caller = inside-trans _ _ _ (w .caller) (with-grows (s .notify) a);
+      uncalled = λ e. absurd (not-both c e);
+      freer = w .freer;
+      unfree = w .unfree;
+      leaf = w .leaf;
+      branch = w .branch;
+      senders = by-kind o _ (more-inside (s .notify) a (o .ins) (w .senders Notify) m) (w .senders Grant) (w .senders Ack) (w .senders Done);
+    };
+  }
+
+  -- ---- GRANT to a node that is free already, or that it doesn't free
+  pub granted-keeps : (a : ℕ) → Sound o → In a (o .out) → bit (s .grant) a ≡ 0 → (not (free s) && o .holds (with (s .grant) a)) ≡ false
+      → Keeps o s (answerWith Ack a (markOf Grant a s))
+  unfolding settle owed acked complete
+  granted-keeps a sound m z n = record {
+    grows = grown o s (answerWith Ack a (markOf Grant a s))
+      (adds-none _)
+      (adds-none _)
+      (adds-once (s .grant) (senderOf (s .freed)) (w .freer) a z (acked o s))
+      (adds-late (s .notify) (senderOf (s .call)) (w .caller) (complete o s) (complete o s) (λ e. e));
+    formed = record {
+      caller = w .caller;
+      uncalled = w .uncalled;
+      freer = inside-trans _ _ _ (w .freer) (with-grows (s .grant) a);
+      unfree = w .unfree;
+      leaf = w .leaf;
+      branch = λ e. (as-met o sound (free s) (s .grant) a (w .branch e .0) n, w .branch e .1);
+      senders = by-kind o _ (w .senders Notify) (more-inside (s .grant) a (o .out) (w .senders Grant) m) (w .senders Ack) (w .senders Done);
+    };
+  }
+
+  -- ---- GRANT that frees
+  pub freed-keeps : (a : ℕ) → Sound o → In a (o .out) → bit (s .grant) a ≡ 0 → free s ≡ false → o .holds (with (s .grant) a) ≡ true
+      → Keeps o s (move (withFreed (By (record { 0 = a })) (markOf Grant a s)) (sending Grant (o .ins)))
+  unfolding settle owed complete
+  freed-keeps a sound m z f h = record {
+    grows = grown o s (move (withFreed (By (record { 0 = a })) (markOf Grant a s)) (sending Grant (o .ins)))
+      (adds-none _)
+      (rw f (adds-all (o .ins)))
+      (rw (not-acked o s f) (rw (not-happened (s .freed) f) (adds-held (s .grant) a z (acked o (withFreed (By (record { 0 = a })) (markOf Grant a s))))))
+      (adds-late (s .notify) (senderOf (s .call)) (w .caller) (complete o s) (complete o s) (λ e. e));
+    formed = record {
+      caller = w .caller;
+      uncalled = w .uncalled;
+      freer = one-inside (s .grant) a;
+      unfree = λ e. absurd (true≢false e);
+      leaf = λ e. absurd (nobody-in a (sound .active-out e) m);
+      branch = λ e. (sym h, refl);
+      senders = by-kind o _ (w .senders Notify) (more-inside (s .grant) a (o .out) (w .senders Grant) m) (w .senders Ack) (w .senders Done);
+    };
+  }
+
+  -- ---- ACK
+  pub acked-keeps : (a : ℕ) → In a (o .ins) → free s ≡ true → Keeps o s (move (markOf Ack a s) nobody)
+  unfolding settle owed
+  acked-keeps a m f = record {
+    grows = grown o s (move (markOf Ack a s) nobody)
+      (adds-none _)
+      (adds-none _)
+      (adds-late (s .grant) (senderOf (s .freed)) (w .freer) (acked o s) _ (acked-more o s a))
+      (adds-late (s .notify) (senderOf (s .call)) (w .caller) (complete o s) _ (complete-more o s (with (s .ack) a) (s .done) (with-grows (s .ack) a) (λ k. le-refl (bit (s .done) k))));
+    formed = record {
+      caller = w .caller;
+      uncalled = w .uncalled;
+      freer = w .freer;
+      unfree = λ e. absurd (not-both f e);
+      leaf = w .leaf;
+      branch = w .branch;
+      senders = by-kind o _ (w .senders Notify) (w .senders Grant) (more-inside (s .ack) a (o .ins) (w .senders Ack) m) (w .senders Done);
+    };
+  }
+
+  -- ---- DONE
+  pub done-keeps : (a : ℕ) → In a (o .out) → called s ≡ true → Keeps o s (move (markOf Done a s) nobody)
+  unfolding settle owed acked
+  done-keeps a m c = record {
+    grows = grown o s (move (markOf Done a s) nobody)
+      (adds-none _)
+      (adds-none _)
+      (adds-late (s .grant) (senderOf (s .freed)) (w .freer) (acked o s) (acked o s) (λ e. e))
+      (adds-late (s .notify) (senderOf (s .call)) (w .caller) (complete o s) _ (complete-more o s (s .ack) (with (s .done) a) (λ k. le-refl (bit (s .ack) k)) (with-grows (s .done) a)));
+    formed = record {
+      caller = w .caller;
+      uncalled = λ e. absurd (not-both c e);
+      freer = w .freer;
+      unfree = w .unfree;
+      leaf = w .leaf;
+      branch = w .branch;
+      senders = by-kind o _ (w .senders Notify) (w .senders Grant) (w .senders Ack) (more-inside (s .done) a (o .out) (w .senders Done) m);
+    };
+  }
+
+  -- ---- being called: n are the senders of NOTIFY then, by is how, and the caller's DONE is held back
+  module _ (by : Why) (n : ℕ) (c : called s ≡ false) (b : happened by ≡ true) (i : Inside (senderOf by) n) (j : Inside n (o .ins))
+      (d : (r : Bool) → Adds (minus (s .notify) (senderOf (s .call))) (union 0 (cond (newly false r) (senderOf by) 0)) (answered r n (senderOf by))) where
+    pub called-keeps : active o ≡ false → Keeps o s (move (withCall by (withHad Notify n s)) (sending Notify (o .out)))
+    unfolding settle owed acked
+    called-keeps e = record {
+      grows = grown o s (move (withCall by (withHad Notify n s)) (sending Notify (o .out)))
+        (rw c (rw b (adds-all (o .out))))
+        (adds-none _)
+        (adds-late (s .grant) (senderOf (s .freed)) (w .freer) (acked o s) (acked o s) (λ e. e))
+        (rw (not-complete o s c) (d (complete o (withCall by (withHad Notify n s)))));
+      formed = record {
+        caller = i;
+        uncalled = λ f. absurd (not-both b f);
+        freer = w .freer;
+        unfree = w .unfree;
+        leaf = λ f. absurd (not-both f e);
+        branch = w .branch;
+        senders = by-kind o _ j (w .senders Grant) (w .senders Ack) (w .senders Done);
+      };
+    }
+
+    pub leaf-keeps : Sound o → active o ≡ true → free s ≡ false → Keeps o s (move (withFreed Itself (withCall by (withHad Notify n s))) (sending Grant (o .ins)))
+    unfolding settle owed
+    leaf-keeps sound e f = record {
+      grows = grown o s (move (withFreed Itself (withCall by (withHad Notify n s))) (sending Grant (o .ins)))
+        (rw c (rw b (rw (sound .active-out e) (adds-none 0))))
+        (rw f (adds-all (o .ins)))
+        (rw (not-acked o s f) (rw (not-happened (s .freed) f) (adds-still (s .grant) (acked o (withFreed Itself (withCall by (withHad Notify n s)))))))
+        (rw (not-complete o s c) (d (complete o (withFreed Itself (withCall by (withHad Notify n s))))));
+      formed = record {
+        caller = i;
+        uncalled = λ g. absurd (not-both b g);
+        freer = none-inside (s .grant);
+        unfree = λ g. absurd (true≢false g);
+        leaf = λ g. (sym b, refl);
+        branch = λ g. absurd (not-both e g);
+        senders = by-kind o _ j (w .senders Grant) (w .senders Ack) (w .senders Done);
+      };
+    }

@@ -1,0 +1,181 @@
+-- The local laws: what holds of one node's record through an opening and through any message, whatever the other nodes do.
+-- Assumes nothing.
+use mathlib.Core.Path.{_≡_, refl, sym, ap, ap₂, _∙_, subst}
+use mathlib.Core.Bool.{Bool, true, false, cond, not, _&&_, _||_}
+use mathlib.Core.Logic.{_⊎_, inl, inr, ⊎-elim}
+use Prim.Native.Nat.{ℕ, _<_}
+use native.Mathlib.Nat.{le-refl}
+use lib.Dec.{eqb}
+use borrow.Author.Tests.{not-true, not-false}
+use Rattle.lemmas.proofs.Cases.{either}
+use Rattle.lemmas.proofs.Tests.{true-or-false, and-left, and-right, or-left-false, or-right-false}
+use Rattle.nodes.specs.Sets.{bit, In, Inside, has, minus, with}
+use Rattle.nodes.proofs.Bit.{bit-empty, has-in, has-out, bit-with-same}
+use Rattle.records.specs.declared.causes.Why.{Why}
+use Rattle.records.specs.declared.causes.Why.the-variants.{Itself, By}
+use Rattle.records.specs.declared.messages.Kind.{Kind}
+use Rattle.records.specs.declared.messages.Kind.the-variants.{Notify, Grant, Ack, Done}
+use Rattle.records.specs.Causes.{senderOf}
+use Rattle.records.specs.Messages.{Letter}
+use Rattle.records.specs.Records.{State, called, free, blankOf, inRound, hadOf, markOf, withHad}
+use Rattle.records.specs.Rounds.{behind, ahead}
+use Rattle.waits.specs.Waits.{Waits, Lawful, inOf}
+use Rattle.step.specs.declared.answers.Answer.{Answer}
+use Rattle.step.specs.declared.answers.Answer.the-variants.{Old, Stray, Repeat}
+use Rattle.step.specs.Step.{Seen, Move, Outcome, still, seenIn, active, nobody, beCalled, react, settle, openRound, neighbours, expects, stray, take, arrive, receive}
+use Rattle.step.specs.Sent.{Grows, Sound, Formed, Fresh}
+use Rattle.step.proofs.Held.{adds-held, adds-still}
+use Rattle.step.proofs.Reacts.{called-waiting, called-active, notify-again, notify-calls, grant-frees, grant-again}
+use Rattle.step.proofs.Keeps.{Keeps, not-happened, one-inside, none-inside, more-inside, notified-keeps, granted-keeps, freed-keeps, acked-keeps, done-keeps, called-keeps, leaf-keeps}
+
+-- a node of a lawful graph of waits
+pub seen-sound : (w : Waits) → Lawful w → (i : ℕ) → i < w .nodes → Sound (seenIn w i)
+seen-sound w l i h = record { monotone = λ g k s e. l .monotone i g k h s e; active-out = λ e. l .active i h e }
+
+moves-as : {o : Seen} {s : State} {m n : Move} → m ≡ n → Keeps o s n → Keeps o s m
+moves-as {o} {s} e k = subst (λ (x : Move). Keeps o s x) (sym e) k
+
+module _ (o : Seen) (sound : Sound o) where
+  -- a blank record can come about
+  pub blank-formed : (round : ℕ) → Formed o (blankOf round)
+  blank-formed round = record {
+    caller = none-inside 0;
+    uncalled = λ e. (refl, refl);
+    freer = none-inside 0;
+    unfree = λ e. refl;
+    leaf = λ e. (refl, refl);
+    branch = λ e. (sym e, refl);
+    senders = nobody-had;
+  }
+    where
+      nobody-had : (k : Kind) → Inside (hadOf k (blankOf round)) (neighbours o k)
+      nobody-had Notify = none-inside (o .ins)
+      nobody-had Grant = none-inside (o .out)
+      nobody-had Ack = none-inside (o .ins)
+      nobody-had Done = none-inside (o .out)
+
+  opens-keep : (round : ℕ) (b : Bool) → active o ≡ b → Keeps o (blankOf round) (beCalled o Itself (blankOf round))
+  opens-keep round false e =
+      moves-as (called-waiting o (blankOf round) Itself e)
+      (called-keeps o (blankOf round) (blank-formed round) Itself 0 refl refl (none-inside 0) (none-inside (o .ins)) (λ r. adds-still 0 r) e)
+  opens-keep round true e =
+      moves-as (called-active o (blankOf round) Itself e refl)
+      (leaf-keeps o (blankOf round) (blank-formed round) Itself 0 refl refl (none-inside 0) (none-inside (o .ins)) (λ r. adds-still 0 r) sound e refl)
+
+  module _ (s : State) (w : Formed o s) where
+    -- the first NOTIFY
+    first-keeps : (a : ℕ) → In a (o .ins) → bit (s .notify) a ≡ 0 → called s ≡ false → (b : Bool) → active o ≡ b
+        → Keeps o s (beCalled o (By (record { 0 = a })) (markOf Notify a s))
+    first-keeps a m z c false e =
+        moves-as (called-waiting o (markOf Notify a s) (By (record { 0 = a })) e)
+        (called-keeps o s w (By (record { 0 = a })) (with (s .notify) a) c refl (one-inside (s .notify) a)
+          (more-inside (s .notify) a (o .ins) (w .senders Notify) m) (λ r. rw (not-happened (s .call) c) (adds-held (s .notify) a z r)) e)
+    first-keeps a m z c true e =
+        let f : free s ≡ false = w .leaf e .0 ∙ c in
+        moves-as (called-active o (markOf Notify a s) (By (record { 0 = a })) e f)
+        (leaf-keeps o s w (By (record { 0 = a })) (with (s .notify) a) c refl (one-inside (s .notify) a)
+          (more-inside (s .notify) a (o .ins) (w .senders Notify) m) (λ r. rw (not-happened (s .call) c) (adds-held (s .notify) a z r)) sound e f)
+
+    notify-keeps : (a : ℕ) → In a (o .ins) → bit (s .notify) a ≡ 0 → (b : Bool) → called s ≡ b → Keeps o s (react o a (markOf Notify a s) Notify)
+    notify-keeps a m z true c = moves-as (notify-again o (markOf Notify a s) a c) (notified-keeps o s w a m z c)
+    notify-keeps a m z false c = moves-as (notify-calls o (markOf Notify a s) a c) (first-keeps a m z c (active o) refl)
+
+    grant-keeps : (a : ℕ) → In a (o .out) → bit (s .grant) a ≡ 0 → (b : Bool) → (not (free s) && o .holds (with (s .grant) a)) ≡ b
+        → Keeps o s (react o a (markOf Grant a s) Grant)
+    grant-keeps a m z true t =
+        moves-as (grant-frees o (markOf Grant a s) a t)
+        (freed-keeps o s w a sound m z (not-true (free s) (and-left (not (free s)) _ t)) (and-right (not (free s)) _ t))
+    grant-keeps a m z false t = moves-as (grant-again o (markOf Grant a s) a t) (granted-keeps o s w a sound m z t)
+
+    react-keeps : (kind : Kind) (a : ℕ) → In a (neighbours o kind) → bit (hadOf kind s) a ≡ 0 → expects s kind ≡ true
+        → Keeps o s (react o a (markOf kind a s) kind)
+    react-keeps Notify a m z e = notify-keeps a m z (called s) refl
+    react-keeps Grant a m z e = grant-keeps a m z _ refl
+    react-keeps Ack a m z e = acked-keeps o s w a m e
+    react-keeps Done a m z e = done-keeps o s w a m e
+
+    take-keeps : (m : Letter) → Fresh o s m → Keeps o s (react o (m .from) (markOf (m .kind) (m .from) s) (m .kind))
+    unfolding stray
+    take-keeps m f =
+        let g = or-right-false (not (eqb (m .to) (o .me))) _ (f .0) in
+        react-keeps (m .kind) (m .from)
+        (has-in _ _ (not-false _ (or-left-false (not (has (neighbours o (m .kind)) (m .from))) _ g)))
+        (has-out _ _ (f .1))
+        (not-false _ (or-right-false (not (has (neighbours o (m .kind)) (m .from))) _ g))
+
+    -- Theorem: a message that is taken adds to what the record says was sent exactly what the step sends, and nothing of it was
+    -- sent before; and the next record can come about.
+    pub take-grows : (m : Letter) → Fresh o s m → Grows o s (take o s m .sends) (take o s m .state)
+    unfolding take settle
+    take-grows m f = take-keeps m f .grows
+
+    pub take-formed : (m : Letter) → Fresh o s m → Formed o (take o s m .state)
+    unfolding take settle
+    take-formed m f = take-keeps m f .formed
+
+  -- Theorem: the same of an opening, from a blank record.
+  pub open-grows : (round : ℕ) → Grows o (blankOf round) (openRound o round .sends) (openRound o round .state)
+  unfolding openRound settle
+  open-grows round = opens-keep round (active o) refl .grows
+
+  pub open-formed : (round : ℕ) → Formed o (openRound o round .state)
+  unfolding openRound settle
+  open-formed round = opens-keep round (active o) refl .formed
+
+-- ---- any message
+module _ (o : Seen) (r : State) (m : Letter) where
+  abbrev now : State
+  now = inRound (m .round) r
+
+  -- nothing is sent and the record stays
+  abbrev Stays : Type 0
+  Stays = (a : Answer) × (receive o r m ≡ still r a)
+
+  -- it is taken, in the message's round
+  abbrev Takes : Type 0
+  Takes = (receive o r m ≡ take o now m) × Fresh o now m
+
+  not-old : behind (m .round) (r .round) ≡ false → receive o r m ≡ arrive o r now m
+  unfolding receive
+  not-old e = ap (λ (b : Bool). cond b (still r Old) (arrive o r now m)) e
+
+  old : behind (m .round) (r .round) ≡ true → receive o r m ≡ still r Old
+  unfolding receive
+  old e = ap (λ (b : Bool). cond b (still r Old) (arrive o r now m)) e
+
+  arrives : {a b : Bool} → stray o now m ≡ a → has (hadOf (m .kind) now) (m .from) ≡ b
+      → arrive o r now m ≡ cond a (still r Stray) (cond b (still r Repeat) (take o now m))
+  unfolding arrive
+  arrives e f = ap₂ (λ (a b : Bool). cond a (still r Stray) (cond b (still r Repeat) (take o now m))) e f
+
+  arrival : receive o r m ≡ arrive o r now m → (a b : Bool) → stray o now m ≡ a → has (hadOf (m .kind) now) (m .from) ≡ b → Takes ⊎ Stays
+  arrival q true b e f = inr (Stray, q ∙ arrives e f)
+  arrival q false true e f = inr (Repeat, q ∙ arrives e f)
+  arrival q false false e f = inl (q ∙ arrives e f, (e, f))
+
+  -- Theorem: a message is taken or leaves everything as it was.
+  pub takes-or-stays : Takes ⊎ Stays
+  takes-or-stays = elim (true-or-false (behind (m .round) (r .round))) [
+    | inl e ↦ inr (Old, old e)
+    | inr e ↦ arrival (not-old e) (stray o now m) (has (hadOf (m .kind) now) (m .from)) refl refl
+  ]
+
+  module _ (sound : Sound o) (w : Formed o r) where
+    round-formed : Formed o now
+    unfolding inRound
+    round-formed = either (Formed o) (ahead (m .round) (r .round)) (blank-formed o sound (m .round)) w
+
+    -- Theorem: records that can come about stay so, whatever is delivered.
+    pub receive-formed : Formed o (receive o r m .state)
+    receive-formed = elim takes-or-stays [
+      | inl t ↦ subst (λ (x : Outcome). Formed o (x .state)) (sym (t .0)) (take-formed o sound now round-formed m (t .1))
+      | inr s ↦ subst (λ (x : Outcome). Formed o (x .state)) (sym (s .1)) w
+    ]
+
+    -- Theorem: a message adds to what the record, in the message's round, says was sent exactly what the step sends, and none
+    -- of that was sent before; or it leaves everything as it was.
+    pub receive-grows : Grows o now (receive o r m .sends) (receive o r m .state) ⊎ Stays
+    receive-grows = elim takes-or-stays [
+      | inl t ↦ inl (subst (λ (x : Outcome). Grows o now (x .sends) (x .state)) (sym (t .0)) (take-grows o sound now round-formed m (t .1)))
+      | inr s ↦ inr s
+    ]
