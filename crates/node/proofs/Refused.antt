@@ -69,10 +69,18 @@ module _ (n me : ℕ) (row : List ℕ) where
         let q = own-accepted (p .0) in
         (q .0, q .1, record-fits n s (q .0) (or-left-false (strangeRecord n s) _ (p .1)))
 
-    pub open-accepted : (round : ℕ) → checkOpenOf n me row ins s round ≡ Accepted → length row ≡ rowSize
-    open-accepted round e =
+    pub open-own : (round : ℕ) → checkOpenOf n me row ins s round ≡ Accepted → checkOwnOf n me row ≡ Accepted
+    open-own round e =
         let p = next-accepted (line 10 0 (cannotOpen (s .round) round)) (open-next round) e in
-        kept-accepted (p .0) .1
+        next-accepted (line 13 0 (strangeKept n s ins)) kept-next (p .0) .0
+
+    pub deliver-own : (m : Message) → checkDeliverOf n me row ins s m ≡ Accepted → checkOwnOf n me row ≡ Accepted
+    deliver-own m e =
+        let p = next-accepted (line 13 0 (strangeMessage n m)) (deliver-next m) e in
+        next-accepted (line 13 0 (strangeKept n s ins)) kept-next (p .0) .0
+
+    pub open-accepted : (round : ℕ) → checkOpenOf n me row ins s round ≡ Accepted → length row ≡ rowSize
+    open-accepted round e = own-accepted (open-own round e) .1
 
     pub deliver-accepted : (m : Message) → checkDeliverOf n me row ins s m ≡ Accepted → (length row ≡ rowSize) × (m .from .0 < places) × Fitting s
     unfolding strangeMessage noNode

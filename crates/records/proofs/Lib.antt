@@ -1,3 +1,4 @@
 -- The laws of records and messages.
 pub mod Views
 pub mod Fits
+pub mod Unique

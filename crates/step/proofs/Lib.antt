@@ -5,3 +5,4 @@ pub mod Held
 pub mod Reacts
 pub mod Keeps
 pub mod Local
+pub mod Unique

@@ -61,7 +61,7 @@ module _ (n k : ℕ) (r : Row) (ok : Fine n k r) where
   sets-unmet : r .kind ≡ 2 → holdsOf r 0 ≡ false
   sets-unmet e = holds-2 r 0 e ∙ not-true-false _ (λ t. let s = any-some (λ q. liesIn q 0) (setsOf r) t in not-both (s .2) (lies-in-empty (s .0)))
 
-  active : holdsOf r 0 ≡ true → outOf r ≡ 0
+  pub active : holdsOf r 0 ≡ true → outOf r ≡ 0
   active t =
       ⊎-elim no-set
       (λ s. ⊎-elim (λ (e : r .kind ≡ 1). absurd (not-both t (count-unmet e))) (λ (e : r .kind ≡ 2). absurd (not-both t (sets-unmet e))) s)
