@@ -1,7 +1,7 @@
 // Graphs, row by row. Sets are written in binary: the last digit is node 0.
 ghost use mathlib.Core.Path.{_≡_};
 ghost use lib.ListN.{length};
-use crate::say::checked;
+use crate::lines::checked;
 use waits::ROW;
 
 pub const ACTIVE: [u64; 6] = [0; 6];

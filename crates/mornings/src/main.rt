@@ -1,11 +1,11 @@
 // What is said of the claims of the paper's mornings, of lists that are offered, and of bad input of every kind.
 mod claims;
 mod graphs;
+mod lines;
 mod lists;
 mod mornings;
 mod questions;
 mod refusals;
-mod say;
 
 fn main() {
     say::text(b"The mornings\n");

@@ -3,10 +3,10 @@ use crate::graphs::eight_each;
 use crate::graphs::one_of;
 use crate::graphs::put;
 use crate::graphs::with_row;
-use crate::say::answer;
-use crate::say::checked;
-use crate::say::number;
-use crate::say::text;
+use crate::lines::answer;
+use crate::lines::checked;
+use say::number;
+use say::text;
 
 // The largest number that can be handed in, and the last place of a set.
 const ALL: u64 = 18_446_744_073_709_551_615;

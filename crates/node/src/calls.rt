@@ -21,14 +21,7 @@ use waits::Checked;
 use waits::row_at;
 
 // The controller opens a round.
-pub fn open(
-    nodes: usize,
-    me: Node,
-    row: &[u64],
-    ins: Set,
-    kept: Record,
-    round: Round,
-) -> Stepped
+pub fn open(nodes: usize, me: Node, row: &[u64], ins: Set, kept: Record, round: Round) -> Stepped
     ensures { λ r. ⌜ outcomeOf r ≡ openOf nodes (me .0) (now (row .entry)) (num ins) (stateOf kept) (round .0) ⌝ }
 {
     let checked = check_open(nodes, me, row, ins, kept, round);

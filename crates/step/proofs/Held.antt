@@ -31,29 +31,34 @@ module _ (h t : ℕ) (i : Inside t h) where
   pub adds-late : (b c : Bool) → (b ≡ true → c ≡ true) → Adds (answered b h t) (union 0 (late b c t)) (answered c h t)
   adds-late true c up = rw (up refl) (adds h (union 0 0) h (λ k.
       (omega (arith, bit-union 0 0 k, bit-empty k), omega (arith, bit-union 0 0 k, bit-empty k))))
-  adds-late false true up = adds (minus h t) (union 0 t) h (λ k.
-      (omega (arith, bit-union 0 t k, bit-empty k, bit-minus h t k, i k, bit-le h k),
-        omega (arith, bit-union 0 t k, bit-empty k, bit-minus h t k, i k, bit-le h k)))
+  adds-late false true up = adds (minus h t) (union 0 t) h (λ k. (
+    omega (arith, bit-union 0 t k, bit-empty k, bit-minus h t k, i k, bit-le h k),
+    omega (arith, bit-union 0 t k, bit-empty k, bit-minus h t k, i k, bit-le h k),
+  ))
   adds-late false false up = adds (minus h t) (union 0 0) (minus h t) (λ k.
       (omega (arith, bit-union 0 0 k, bit-empty k), omega (arith, bit-union 0 0 k, bit-empty k)))
 
   -- ---- an answer at once to somebody new
   pub adds-once : (a : ℕ) → bit h a ≡ 0 → (b : Bool) → Adds (answered b h t) (union (single a) (late b b t)) (answered b (with h a) t)
-  adds-once a z true = adds h (union (single a) 0) (with h a) (λ k.
-      (omega (arith, bit-union (single a) 0 k, bit-empty k, bit-with h a k),
-        omega (arith, bit-union (single a) 0 k, bit-empty k, single-apart h a k z)))
-  adds-once a z false = adds (minus h t) (union (single a) 0) (minus (with h a) t) (λ k.
-      (omega (arith, bit-union (single a) 0 k, bit-empty k, bit-minus h t k, bit-minus (with h a) t k, bit-with h a k, single-apart h a k z, i k, bit-le h k, bit-le (single a) k),
-        omega (arith, bit-union (single a) 0 k, bit-empty k, bit-minus h t k, single-apart h a k z, bit-le h k)))
+  adds-once a z true = adds h (union (single a) 0) (with h a) (λ k. (
+    omega (arith, bit-union (single a) 0 k, bit-empty k, bit-with h a k),
+    omega (arith, bit-union (single a) 0 k, bit-empty k, single-apart h a k z),
+  ))
+  adds-once a z false = adds (minus h t) (union (single a) 0) (minus (with h a) t) (λ k. (
+    omega (arith, bit-union (single a) 0 k, bit-empty k, bit-minus h t k, bit-minus (with h a) t k, bit-with h a k, single-apart h a k z, i k, bit-le h k, bit-le (single a) k),
+    omega (arith, bit-union (single a) 0 k, bit-empty k, bit-minus h t k, single-apart h a k z, bit-le h k),
+  ))
 
 -- ---- somebody new whose answer is held back, where nobody's was
 pub adds-held : (h a : ℕ) → bit h a ≡ 0 → (c : Bool) → Adds (minus h 0) (union 0 (late false c (single a))) (answered c (with h a) (single a))
-adds-held h a z true = adds (minus h 0) (union 0 (single a)) (with h a) (λ k.
-    (omega (arith, bit-union 0 (single a) k, bit-empty k, bit-minus h 0 k, bit-with h a k),
-      omega (arith, bit-union 0 (single a) k, bit-empty k, bit-minus h 0 k, single-apart h a k z)))
-adds-held h a z false = adds (minus h 0) (union 0 0) (minus (with h a) (single a)) (λ k.
-    (omega (arith, bit-union 0 0 k, bit-empty k, bit-minus h 0 k, bit-minus (with h a) (single a) k, bit-with h a k, single-apart h a k z, bit-le (single a) k, bit-le h k),
-      omega (arith, bit-union 0 0 k, bit-empty k)))
+adds-held h a z true = adds (minus h 0) (union 0 (single a)) (with h a) (λ k. (
+  omega (arith, bit-union 0 (single a) k, bit-empty k, bit-minus h 0 k, bit-with h a k),
+  omega (arith, bit-union 0 (single a) k, bit-empty k, bit-minus h 0 k, single-apart h a k z),
+))
+adds-held h a z false = adds (minus h 0) (union 0 0) (minus (with h a) (single a)) (λ k. (
+  omega (arith, bit-union 0 0 k, bit-empty k, bit-minus h 0 k, bit-minus (with h a) (single a) k, bit-with h a k, single-apart h a k z, bit-le (single a) k, bit-le h k),
+  omega (arith, bit-union 0 0 k, bit-empty k),
+))
 
 -- ---- nobody new, and nobody's answer is held back, before or after
 pub adds-still : (h : ℕ) (c : Bool) → Adds (minus h 0) (union 0 (late false c 0)) (answered c h 0)

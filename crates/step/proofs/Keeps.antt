@@ -102,10 +102,10 @@ module _ (o : Seen) (s : State) (w : Formed o s) where
   unfolding settle owed acked complete
   notified-keeps a m z c = record {
     grows = grown o s (answerWith Done a (markOf Notify a s))
-      (adds-none _)
-      (adds-none _)
-      (adds-late (s .grant) (senderOf (s .freed)) (w .freer) (acked o s) (acked o s) (λ e. e))
-      (adds-once (s .notify) (senderOf (s .call)) (w .caller) a z (complete o s));
+        (adds-none _)
+        (adds-none _)
+        (adds-late (s .grant) (senderOf (s .freed)) (w .freer) (acked o s) (acked o s) (λ e. e))
+        (adds-once (s .notify) (senderOf (s .call)) (w .caller) a z (complete o s));
     formed = record {
       caller = inside-trans _ _ _ (w .caller) (with-grows (s .notify) a);
       uncalled = λ e. absurd (not-both c e);
@@ -123,10 +123,10 @@ module _ (o : Seen) (s : State) (w : Formed o s) where
   unfolding settle owed acked complete
   granted-keeps a sound m z n = record {
     grows = grown o s (answerWith Ack a (markOf Grant a s))
-      (adds-none _)
-      (adds-none _)
-      (adds-once (s .grant) (senderOf (s .freed)) (w .freer) a z (acked o s))
-      (adds-late (s .notify) (senderOf (s .call)) (w .caller) (complete o s) (complete o s) (λ e. e));
+        (adds-none _)
+        (adds-none _)
+        (adds-once (s .grant) (senderOf (s .freed)) (w .freer) a z (acked o s))
+        (adds-late (s .notify) (senderOf (s .call)) (w .caller) (complete o s) (complete o s) (λ e. e));
     formed = record {
       caller = w .caller;
       uncalled = w .uncalled;
@@ -144,10 +144,10 @@ module _ (o : Seen) (s : State) (w : Formed o s) where
   unfolding settle owed complete
   freed-keeps a sound m z f h = record {
     grows = grown o s (move (withFreed (By (record { 0 = a })) (markOf Grant a s)) (sending Grant (o .ins)))
-      (adds-none _)
-      (rw f (adds-all (o .ins)))
-      (rw (not-acked o s f) (rw (not-happened (s .freed) f) (adds-held (s .grant) a z (acked o (withFreed (By (record { 0 = a })) (markOf Grant a s))))))
-      (adds-late (s .notify) (senderOf (s .call)) (w .caller) (complete o s) (complete o s) (λ e. e));
+        (adds-none _)
+        (rw f (adds-all (o .ins)))
+        (rw (not-acked o s f) (rw (not-happened (s .freed) f) (adds-held (s .grant) a z (acked o (withFreed (By (record { 0 = a })) (markOf Grant a s))))))
+        (adds-late (s .notify) (senderOf (s .call)) (w .caller) (complete o s) (complete o s) (λ e. e));
     formed = record {
       caller = w .caller;
       uncalled = w .uncalled;
@@ -164,10 +164,10 @@ module _ (o : Seen) (s : State) (w : Formed o s) where
   unfolding settle owed
   acked-keeps a m f = record {
     grows = grown o s (move (markOf Ack a s) nobody)
-      (adds-none _)
-      (adds-none _)
-      (adds-late (s .grant) (senderOf (s .freed)) (w .freer) (acked o s) _ (acked-more o s a))
-      (adds-late (s .notify) (senderOf (s .call)) (w .caller) (complete o s) _ (complete-more o s (with (s .ack) a) (s .done) (with-grows (s .ack) a) (λ k. le-refl (bit (s .done) k))));
+        (adds-none _)
+        (adds-none _)
+        (adds-late (s .grant) (senderOf (s .freed)) (w .freer) (acked o s) _ (acked-more o s a))
+        (adds-late (s .notify) (senderOf (s .call)) (w .caller) (complete o s) _ (complete-more o s (with (s .ack) a) (s .done) (with-grows (s .ack) a) (λ k. le-refl (bit (s .done) k))));
     formed = record {
       caller = w .caller;
       uncalled = w .uncalled;
@@ -184,10 +184,10 @@ module _ (o : Seen) (s : State) (w : Formed o s) where
   unfolding settle owed acked
   done-keeps a m c = record {
     grows = grown o s (move (markOf Done a s) nobody)
-      (adds-none _)
-      (adds-none _)
-      (adds-late (s .grant) (senderOf (s .freed)) (w .freer) (acked o s) (acked o s) (λ e. e))
-      (adds-late (s .notify) (senderOf (s .call)) (w .caller) (complete o s) _ (complete-more o s (s .ack) (with (s .done) a) (λ k. le-refl (bit (s .ack) k)) (with-grows (s .done) a)));
+        (adds-none _)
+        (adds-none _)
+        (adds-late (s .grant) (senderOf (s .freed)) (w .freer) (acked o s) (acked o s) (λ e. e))
+        (adds-late (s .notify) (senderOf (s .call)) (w .caller) (complete o s) _ (complete-more o s (s .ack) (with (s .done) a) (λ k. le-refl (bit (s .ack) k)) (with-grows (s .done) a)));
     formed = record {
       caller = w .caller;
       uncalled = λ e. absurd (not-both c e);
@@ -206,10 +206,10 @@ module _ (o : Seen) (s : State) (w : Formed o s) where
     unfolding settle owed acked
     called-keeps e = record {
       grows = grown o s (move (withCall by (withHad Notify n s)) (sending Notify (o .out)))
-        (rw c (rw b (adds-all (o .out))))
-        (adds-none _)
-        (adds-late (s .grant) (senderOf (s .freed)) (w .freer) (acked o s) (acked o s) (λ e. e))
-        (rw (not-complete o s c) (d (complete o (withCall by (withHad Notify n s)))));
+          (rw c (rw b (adds-all (o .out))))
+          (adds-none _)
+          (adds-late (s .grant) (senderOf (s .freed)) (w .freer) (acked o s) (acked o s) (λ e. e))
+          (rw (not-complete o s c) (d (complete o (withCall by (withHad Notify n s)))));
       formed = record {
         caller = i;
         uncalled = λ f. absurd (not-both b f);
@@ -225,10 +225,10 @@ module _ (o : Seen) (s : State) (w : Formed o s) where
     unfolding settle owed
     leaf-keeps sound e f = record {
       grows = grown o s (move (withFreed Itself (withCall by (withHad Notify n s))) (sending Grant (o .ins)))
-        (rw c (rw b (rw (sound .active-out e) (adds-none 0))))
-        (rw f (adds-all (o .ins)))
-        (rw (not-acked o s f) (rw (not-happened (s .freed) f) (adds-still (s .grant) (acked o (withFreed Itself (withCall by (withHad Notify n s)))))))
-        (rw (not-complete o s c) (d (complete o (withFreed Itself (withCall by (withHad Notify n s))))));
+          (rw c (rw b (rw (sound .active-out e) (adds-none 0))))
+          (rw f (adds-all (o .ins)))
+          (rw (not-acked o s f) (rw (not-happened (s .freed) f) (adds-still (s .grant) (acked o (withFreed Itself (withCall by (withHad Notify n s)))))))
+          (rw (not-complete o s c) (d (complete o (withFreed Itself (withCall by (withHad Notify n s))))));
       formed = record {
         caller = i;
         uncalled = λ g. absurd (not-both b g);

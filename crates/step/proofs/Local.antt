@@ -69,12 +69,12 @@ module _ (o : Seen) (sound : Sound o) where
     first-keeps a m z c false e =
         moves-as (called-waiting o (markOf Notify a s) (By (record { 0 = a })) e)
         (called-keeps o s w (By (record { 0 = a })) (with (s .notify) a) c refl (one-inside (s .notify) a)
-          (more-inside (s .notify) a (o .ins) (w .senders Notify) m) (λ r. rw (not-happened (s .call) c) (adds-held (s .notify) a z r)) e)
+        (more-inside (s .notify) a (o .ins) (w .senders Notify) m) (λ r. rw (not-happened (s .call) c) (adds-held (s .notify) a z r)) e)
     first-keeps a m z c true e =
         let f : free s ≡ false = w .leaf e .0 ∙ c in
         moves-as (called-active o (markOf Notify a s) (By (record { 0 = a })) e f)
         (leaf-keeps o s w (By (record { 0 = a })) (with (s .notify) a) c refl (one-inside (s .notify) a)
-          (more-inside (s .notify) a (o .ins) (w .senders Notify) m) (λ r. rw (not-happened (s .call) c) (adds-held (s .notify) a z r)) sound e f)
+        (more-inside (s .notify) a (o .ins) (w .senders Notify) m) (λ r. rw (not-happened (s .call) c) (adds-held (s .notify) a z r)) sound e f)
 
     notify-keeps : (a : ℕ) → In a (o .ins) → bit (s .notify) a ≡ 0 → (b : Bool) → called s ≡ b → Keeps o s (react o a (markOf Notify a s) Notify)
     notify-keeps a m z true c = moves-as (notify-again o (markOf Notify a s) a c) (notified-keeps o s w a m z c)

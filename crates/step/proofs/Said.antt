@@ -83,7 +83,7 @@ pub takes : (o : Seen) (s : State) (m : Letter) {kind : Kind} {t : State} {v : M
 unfolding take
 takes o s m {kind} f g h k =
     ap (saying Taken) (k ∙ ap (settle o s)
-      (h ∙ ap (λ (x : State). react o (m .from) x kind) g ∙ ap (λ (x : Kind). react o (m .from) (markOf x (m .from) s) x) f))
+    (h ∙ ap (λ (x : State). react o (m .from) x kind) g ∙ ap (λ (x : Kind). react o (m .from) (markOf x (m .from) s) x) f))
 
 -- ---- what a message is
 pub neighbour : (o : Seen) (k : Kind) (from : ℕ) {kind : Kind} {n : ℕ} {r b : Bool} → kind ≡ k → n ≡ neighbours o kind → r ≡ has n from → r ≡ b

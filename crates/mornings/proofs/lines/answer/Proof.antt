@@ -2,8 +2,8 @@
 use mathlib.Core.Path.{sym, _∙_}
 use borrow.Author.Needs.{needs}
 use Rattle.waits.proofs.Table.{accepted-shaped}
-use Rattle.mornings.proofs.say.answer.Statement.{statement}
-use Rattle.mornings.proofs.say.answer.Tie as tie
+use Rattle.mornings.proofs.lines.answer.Statement.{statement}
+use Rattle.mornings.proofs.lines.answer.Tie as tie
 
 check-requires : tie.Need-check-requires
 check-requires c κs = search needs
