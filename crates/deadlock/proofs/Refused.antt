@@ -1,13 +1,11 @@
 -- The table's order for questions about a graph: the graph's numbers, then 9, then what the question adds. Assumes nothing.
-use mathlib.Core.Path.{_≡_, refl, sym, ap, _∙_}
-use mathlib.Core.Bool.{Bool, true, false, cond}
+use mathlib.Core.Path.{_≡_, sym, ap, _∙_}
+use mathlib.Core.Bool.{false}
 use mathlib.Core.List.{List, [], _∷_, append-assoc}
-use mathlib.Core.List.List·Memᴰ.{List·Memᴰ·head as here}
 use Prim.Native.Nat.{ℕ, _≤_, _<_}
 use borrow.Author.Tests.{leb-false, ltb-false}
 use Rattle.nodes.specs.Sets.{noNode}
 use Rattle.waits.specs.declared.numbers.Refusal.{Refusal}
-use Rattle.waits.specs.declared.numbers.Checked.{Checked}
 use Rattle.waits.specs.declared.numbers.Checked.the-variants.{Accepted, Refused}
 use Rattle.waits.specs.Numbers.{Line, line, graphLines, firstSaid, checkOf}
 use Rattle.waits.proofs.Next.{Next, next, refused-before, next-accepted}

@@ -19,9 +19,9 @@ module _ {A : Type 0} where
   of-false {y = y} x e h = ap (λ (t : Bool). cond t x y) (sym e) ∙ h
 
 -- a fact that both branches have
-pub either : {A : Type 0} (P : A → Type 0) (b : Bool) {x y : A} → P x → P y → P (cond b x y)
-either P true p q = p
-either P false p q = q
+pub both-branches : {A : Type 0} (P : A → Type 0) (b : Bool) {x y : A} → P x → P y → P (cond b x y)
+both-branches P true p q = p
+both-branches P false p q = q
 
 -- a chain of tests of which one must be true, and of which all must be
 pub or-here : {x : Bool} (y : Bool) → x ≡ true → true ≡ (x || y)

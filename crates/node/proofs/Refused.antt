@@ -1,11 +1,11 @@
 -- The table's order for one controller, and what isn't refused. Assumes nothing.
-use mathlib.Core.Path.{_≡_, refl, sym, ap, _∙_}
-use mathlib.Core.Bool.{Bool, true, false, not}
-use mathlib.Core.List.{List, [], _∷_}
-use mathlib.Core.List.List·Memᴰ.{List·Memᴰ·head as here, List·Memᴰ·tail as there}
+use mathlib.Core.Path.{_≡_, refl, ap, _∙_}
+use mathlib.Core.Bool.{false}
+use mathlib.Core.List.{List}
+use mathlib.Core.List.List·Memᴰ.{List·Memᴰ·head as here}
 use Prim.Native.Nat.{ℕ, _<_, _≤_}
 use native.Mathlib.Omega.{arith}
-use lib.Dec.{eqb, leb}
+use lib.Dec.{leb}
 use lib.ListN.{length}
 use borrow.Author.Tests.{leb-false, eqb-true, not-false}
 use Rattle.lemmas.proofs.Tests.{or-left-false, or-right-false}
@@ -13,14 +13,14 @@ use Rattle.nodes.specs.Sets.{noNode}
 use Rattle.nodes.specs.Words.{places}
 use Rattle.records.specs.declared.messages.Message.{Message}
 use Rattle.records.specs.Messages.{kinds, strangeMessage}
-use Rattle.records.specs.Records.{State, Fitting, strangeSet, strangeRecord}
+use Rattle.records.specs.Records.{State, Fitting, strangeRecord}
 use Rattle.records.proofs.Fits.{record-fits}
 use Rattle.waits.specs.declared.rows.Row.{Row}
 use Rattle.waits.specs.declared.numbers.Refusal.{Refusal}
 use Rattle.waits.specs.declared.numbers.Checked.{Checked}
 use Rattle.waits.specs.declared.numbers.Checked.the-variants.{Accepted, Refused}
 use Rattle.waits.specs.Rows.{rowSize, rowAt}
-use Rattle.waits.specs.Numbers.{Line, line, strangeCount, checkRowOf}
+use Rattle.waits.specs.Numbers.{line, strangeCount, checkRowOf}
 use Rattle.waits.proofs.Cases.{count-fits}
 use Rattle.waits.proofs.Table.{accepted-silent}
 use Rattle.waits.proofs.Next.{Next, next, refused-before, next-accepted}

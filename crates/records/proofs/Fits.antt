@@ -5,7 +5,7 @@ use Prim.Native.Nat.{ℕ, _≤_}
 use native.Mathlib.Omega.{arith}
 use lib.Dec.{ltb}
 use borrow.Author.Tests.{leb-false}
-use Rattle.lemmas.proofs.Cases.{either}
+use Rattle.lemmas.proofs.Cases.{both-branches}
 use Rattle.lemmas.proofs.Tests.{or-left-false, or-right-false}
 use Rattle.nodes.specs.Sets.{noNode}
 use Rattle.nodes.specs.Words.{places}
@@ -25,7 +25,7 @@ mark-fits Done from s fit = fit
 
 pub round-fits : (round : ℕ) (s : State) → Fitting s → Fitting (inRound round s)
 unfolding inRound
-round-fits round s fit = either Fitting (ahead round (s .round)) (tt, tt) fit
+round-fits round s fit = both-branches Fitting (ahead round (s .round)) (tt, tt) fit
 
 pub same-fits : {s t : State} → s ≡ t → Fitting t → Fitting s
 same-fits e fit = rw e fit

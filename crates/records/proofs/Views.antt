@@ -1,11 +1,10 @@
 -- The numbers of the code, and what they stand for. Assumes nothing.
 use mathlib.Core.Path.{_≡_, refl, sym, ap, _∙_}
-use mathlib.Core.Bool.{Bool}
-use Prim.Native.Nat.{ℕ, zero, suc, _+_, _-_, _<_, _≤_}
+use Prim.Native.Nat.{ℕ, zero, suc, _+_, _-_}
 use native.Mathlib.Omega.{arith}
 use Rattle.nodes.specs.Sets.{union, with, single}
 use Rattle.records.specs.declared.causes.Why.{Why}
-use Rattle.records.specs.declared.causes.Why.the-variants.{Not, Itself, By}
+use Rattle.records.specs.declared.causes.Why.the-variants.{Not, By}
 use Rattle.records.specs.declared.messages.Kind.{Kind}
 use Rattle.records.specs.declared.messages.Kind.the-variants.{Done}
 use Rattle.records.specs.Causes.{whyOf, Fits}

@@ -1,13 +1,10 @@
 -- An answer at once, and an answer that is held back: sets of whom a record says it has answered. Assumes nothing.
-use mathlib.Core.Path.{_≡_, refl, sym, ap, _∙_}
-use mathlib.Core.Bool.{Bool, true, false, cond, true≢false}
-use Prim.Native.Nat.{ℕ, _-_, _≤_, min, max}
+use mathlib.Core.Path.{_≡_, refl, sym, _∙_}
+use mathlib.Core.Bool.{Bool, true, false, cond}
+use Prim.Native.Nat.{ℕ, min, max}
 use native.Mathlib.Omega.{arith}
 use Rattle.nodes.specs.Sets.{bit, Inside, union, meet, minus, single, with}
 use Rattle.nodes.proofs.Bit.{bit-le, same, bit-empty, empty-same, bit-union, bit-meet, bit-minus, bit-with, single-apart}
-use Rattle.records.specs.declared.causes.Why.{Why}
-use Rattle.records.specs.declared.causes.Why.the-variants.{Not, Itself, By}
-use Rattle.records.specs.Causes.{happened, senderOf}
 use Rattle.step.specs.Step.{newly}
 use Rattle.step.specs.Sent.{answered, Adds}
 

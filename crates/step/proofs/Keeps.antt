@@ -1,22 +1,21 @@
 -- One step of a record that can come about: what it is said to have sent grows by what it sends, and the next record can come
 -- about too. Assumes nothing.
-use mathlib.Core.Path.{_≡_, refl, sym, ap, _∙_, subst}
+use mathlib.Core.Path.{_≡_, refl, sym, ap}
 use mathlib.Core.Bool.{Bool, true, false, cond, not, _&&_, _||_, true≢false}
-use mathlib.Core.Logic.{_⊎_, inl, inr, ⊎-elim}
-use Prim.Native.Nat.{ℕ, _≤_, zero-le}
+use mathlib.Core.Logic.{⊎-elim}
+use Prim.Native.Nat.{ℕ}
 use native.Mathlib.Nat.{le-refl}
 use native.Mathlib.Omega.{arith}
-use borrow.Author.Tests.{not-true, not-false}
-use Rattle.lemmas.proofs.Tests.{not-both, true-or-false, and-intro, and-left, and-right, or-intro-right, or-intro-left, or-cases}
+use Rattle.lemmas.proofs.Tests.{not-both, and-intro, and-left, and-right, or-intro-right, or-intro-left, or-cases}
 use Rattle.nodes.specs.Sets.{bit, In, Inside, union, minus, single, with, inside}
-use Rattle.nodes.proofs.Bit.{bit-le, bit-empty, bit-with, bit-with-same, bit-single-same, inside-of, of-inside, inside-trans, inside-in, with-grows, in-with}
+use Rattle.nodes.proofs.Bit.{bit-le, bit-empty, bit-with, inside-of, of-inside, inside-trans, inside-in, with-grows, in-with}
 use Rattle.records.specs.declared.causes.Why.{Why}
 use Rattle.records.specs.declared.causes.Why.the-variants.{Not, Itself, By}
 use Rattle.records.specs.declared.messages.Kind.{Kind}
 use Rattle.records.specs.declared.messages.Kind.the-variants.{Notify, Grant, Ack, Done}
-use Rattle.records.specs.Causes.{happened, byItself, senderOf}
+use Rattle.records.specs.Causes.{happened, senderOf}
 use Rattle.records.specs.Records.{State, called, free, withCall, withFreed, hadOf, withHad, markOf}
-use Rattle.step.specs.Step.{Seen, Receivers, Move, active, acked, complete, nobody, sending, move, answerWith, newly, owed, settle, neighbours}
+use Rattle.step.specs.Step.{Seen, Move, active, acked, complete, nobody, sending, move, answerWith, newly, owed, settle, neighbours}
 use Rattle.step.specs.Sent.{answered, sent, toWhom, Adds, Grows, Sound, Formed}
 use Rattle.step.proofs.Held.{adds-none, adds-all, adds-late, adds-once, adds-held, adds-still}
 
@@ -111,8 +110,8 @@ module _ (o : Seen) (s : State) (w : Formed o s) where
       uncalled = λ e. absurd (not-both c e);
       freer = w .freer;
       unfree = w .unfree;
-      leaf = w .leaf;
-      branch = w .branch;
+      if-active = w .if-active;
+      if-waiting = w .if-waiting;
       senders = by-kind o _ (more-inside (s .notify) a (o .ins) (w .senders Notify) m) (w .senders Grant) (w .senders Ack) (w .senders Done);
     };
   }
@@ -132,8 +131,8 @@ module _ (o : Seen) (s : State) (w : Formed o s) where
       uncalled = w .uncalled;
       freer = inside-trans _ _ _ (w .freer) (with-grows (s .grant) a);
       unfree = w .unfree;
-      leaf = w .leaf;
-      branch = λ e. (as-met o sound (free s) (s .grant) a (w .branch e .0) n, w .branch e .1);
+      if-active = w .if-active;
+      if-waiting = λ e. (as-met o sound (free s) (s .grant) a (w .if-waiting e .0) n, w .if-waiting e .1);
       senders = by-kind o _ (w .senders Notify) (more-inside (s .grant) a (o .out) (w .senders Grant) m) (w .senders Ack) (w .senders Done);
     };
   }
@@ -153,8 +152,8 @@ module _ (o : Seen) (s : State) (w : Formed o s) where
       uncalled = w .uncalled;
       freer = one-inside (s .grant) a;
       unfree = λ e. absurd (true≢false e);
-      leaf = λ e. absurd (nobody-in a (sound .active-out e) m);
-      branch = λ e. (sym h, refl);
+      if-active = λ e. absurd (nobody-in a (sound .active-out e) m);
+      if-waiting = λ e. (sym h, refl);
       senders = by-kind o _ (w .senders Notify) (more-inside (s .grant) a (o .out) (w .senders Grant) m) (w .senders Ack) (w .senders Done);
     };
   }
@@ -173,8 +172,8 @@ module _ (o : Seen) (s : State) (w : Formed o s) where
       uncalled = w .uncalled;
       freer = w .freer;
       unfree = λ e. absurd (not-both f e);
-      leaf = w .leaf;
-      branch = w .branch;
+      if-active = w .if-active;
+      if-waiting = w .if-waiting;
       senders = by-kind o _ (w .senders Notify) (w .senders Grant) (more-inside (s .ack) a (o .ins) (w .senders Ack) m) (w .senders Done);
     };
   }
@@ -193,8 +192,8 @@ module _ (o : Seen) (s : State) (w : Formed o s) where
       uncalled = λ e. absurd (not-both c e);
       freer = w .freer;
       unfree = w .unfree;
-      leaf = w .leaf;
-      branch = w .branch;
+      if-active = w .if-active;
+      if-waiting = w .if-waiting;
       senders = by-kind o _ (w .senders Notify) (w .senders Grant) (w .senders Ack) (more-inside (s .done) a (o .out) (w .senders Done) m);
     };
   }
@@ -215,8 +214,8 @@ module _ (o : Seen) (s : State) (w : Formed o s) where
         uncalled = λ f. absurd (not-both b f);
         freer = w .freer;
         unfree = w .unfree;
-        leaf = λ f. absurd (not-both f e);
-        branch = w .branch;
+        if-active = λ f. absurd (not-both f e);
+        if-waiting = w .if-waiting;
         senders = by-kind o _ j (w .senders Grant) (w .senders Ack) (w .senders Done);
       };
     }
@@ -234,8 +233,8 @@ module _ (o : Seen) (s : State) (w : Formed o s) where
         uncalled = λ g. absurd (not-both b g);
         freer = none-inside (s .grant);
         unfree = λ g. absurd (true≢false g);
-        leaf = λ g. (sym b, refl);
-        branch = λ g. absurd (not-both e g);
+        if-active = λ g. (sym b, refl);
+        if-waiting = λ g. absurd (not-both e g);
         senders = by-kind o _ j (w .senders Grant) (w .senders Ack) (w .senders Done);
       };
     }

@@ -1,8 +1,8 @@
 -- The laws of a step.
 pub mod Said
+pub mod Reacts
 pub mod Fits
 pub mod Held
-pub mod Reacts
 pub mod Keeps
 pub mod Local
 pub mod Unique

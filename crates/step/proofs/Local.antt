@@ -1,28 +1,25 @@
 -- The local laws: what holds of one node's record through an opening and through any message, whatever the other nodes do.
 -- Assumes nothing.
 use mathlib.Core.Path.{_≡_, refl, sym, ap, ap₂, _∙_, subst}
-use mathlib.Core.Bool.{Bool, true, false, cond, not, _&&_, _||_}
-use mathlib.Core.Logic.{_⊎_, inl, inr, ⊎-elim}
+use mathlib.Core.Bool.{Bool, true, false, cond, not, _&&_}
+use mathlib.Core.Logic.{_⊎_, inl, inr}
 use Prim.Native.Nat.{ℕ, _<_}
-use native.Mathlib.Nat.{le-refl}
 use lib.Dec.{eqb}
 use borrow.Author.Tests.{not-true, not-false}
-use Rattle.lemmas.proofs.Cases.{either}
+use Rattle.lemmas.proofs.Cases.{both-branches}
 use Rattle.lemmas.proofs.Tests.{true-or-false, and-left, and-right, or-left-false, or-right-false}
-use Rattle.nodes.specs.Sets.{bit, In, Inside, has, minus, with}
-use Rattle.nodes.proofs.Bit.{bit-empty, has-in, has-out, bit-with-same}
-use Rattle.records.specs.declared.causes.Why.{Why}
+use Rattle.nodes.specs.Sets.{bit, In, Inside, has, with}
+use Rattle.nodes.proofs.Bit.{has-in, has-out}
 use Rattle.records.specs.declared.causes.Why.the-variants.{Itself, By}
 use Rattle.records.specs.declared.messages.Kind.{Kind}
 use Rattle.records.specs.declared.messages.Kind.the-variants.{Notify, Grant, Ack, Done}
-use Rattle.records.specs.Causes.{senderOf}
 use Rattle.records.specs.Messages.{Letter}
-use Rattle.records.specs.Records.{State, called, free, blankOf, inRound, hadOf, markOf, withHad}
+use Rattle.records.specs.Records.{State, called, free, blankOf, inRound, hadOf, markOf}
 use Rattle.records.specs.Rounds.{behind, ahead}
-use Rattle.waits.specs.Waits.{Waits, Lawful, inOf}
+use Rattle.waits.specs.Waits.{Waits, Lawful}
 use Rattle.step.specs.declared.answers.Answer.{Answer}
 use Rattle.step.specs.declared.answers.Answer.the-variants.{Old, Stray, Repeat}
-use Rattle.step.specs.Step.{Seen, Move, Outcome, still, seenIn, active, nobody, beCalled, react, settle, openRound, neighbours, expects, stray, take, arrive, receive}
+use Rattle.step.specs.Step.{Seen, Move, Outcome, still, seenIn, active, beCalled, react, settle, openRound, neighbours, expects, stray, take, arrive, receive}
 use Rattle.step.specs.Sent.{Grows, Sound, Formed, Fresh}
 use Rattle.step.proofs.Held.{adds-held, adds-still}
 use Rattle.step.proofs.Reacts.{called-waiting, called-active, notify-again, notify-calls, grant-frees, grant-again}
@@ -43,8 +40,8 @@ module _ (o : Seen) (sound : Sound o) where
     uncalled = λ e. (refl, refl);
     freer = none-inside 0;
     unfree = λ e. refl;
-    leaf = λ e. (refl, refl);
-    branch = λ e. (sym e, refl);
+    if-active = λ e. (refl, refl);
+    if-waiting = λ e. (sym e, refl);
     senders = nobody-had;
   }
     where
@@ -71,7 +68,7 @@ module _ (o : Seen) (sound : Sound o) where
         (called-keeps o s w (By (record { 0 = a })) (with (s .notify) a) c refl (one-inside (s .notify) a)
         (more-inside (s .notify) a (o .ins) (w .senders Notify) m) (λ r. rw (not-happened (s .call) c) (adds-held (s .notify) a z r)) e)
     first-keeps a m z c true e =
-        let f : free s ≡ false = w .leaf e .0 ∙ c in
+        let f : free s ≡ false = w .if-active e .0 ∙ c in
         moves-as (called-active o (markOf Notify a s) (By (record { 0 = a })) e f)
         (leaf-keeps o s w (By (record { 0 = a })) (with (s .notify) a) c refl (one-inside (s .notify) a)
         (more-inside (s .notify) a (o .ins) (w .senders Notify) m) (λ r. rw (not-happened (s .call) c) (adds-held (s .notify) a z r)) sound e f)
@@ -163,7 +160,7 @@ module _ (o : Seen) (r : State) (m : Letter) where
   module _ (sound : Sound o) (w : Formed o r) where
     round-formed : Formed o now
     unfolding inRound
-    round-formed = either (Formed o) (ahead (m .round) (r .round)) (blank-formed o sound (m .round)) w
+    round-formed = both-branches (Formed o) (ahead (m .round) (r .round)) (blank-formed o sound (m .round)) w
 
     -- Theorem: records that can come about stay so, whatever is delivered.
     pub receive-formed : Formed o (receive o r m .state)

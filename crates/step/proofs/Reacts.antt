@@ -1,13 +1,12 @@
 -- What a node does with a message, case by case. Assumes nothing.
-use mathlib.Core.Path.{_≡_, sym, ap, ap₂, _∙_}
-use mathlib.Core.Bool.{Bool, true, false, cond, not, _&&_, _||_}
+use mathlib.Core.Path.{_≡_, ap, ap₂}
+use mathlib.Core.Bool.{Bool, true, false, cond, not, _&&_}
 use Prim.Native.Nat.{ℕ}
 use Rattle.records.specs.declared.causes.Why.{Why}
 use Rattle.records.specs.declared.causes.Why.the-variants.{Itself, By}
-use Rattle.records.specs.declared.messages.Kind.{Kind}
 use Rattle.records.specs.declared.messages.Kind.the-variants.{Notify, Grant, Ack, Done}
 use Rattle.records.specs.Records.{State, called, free, withCall, withFreed}
-use Rattle.step.specs.Step.{Seen, Move, active, nobody, sending, move, becomeFree, beCalled, answerWith, onNotify, onGrant}
+use Rattle.step.specs.Step.{Seen, active, nobody, sending, move, becomeFree, beCalled, answerWith, onNotify, onGrant}
 
 module _ (o : Seen) (s : State) where
   pub called-waiting : (by : Why) → active o ≡ false → beCalled o by s ≡ move (withCall by s) (sending Notify (o .out))
@@ -18,6 +17,11 @@ module _ (o : Seen) (s : State) where
   pub called-active : (by : Why) → active o ≡ true → free s ≡ false → beCalled o by s ≡ move (withFreed Itself (withCall by s)) (sending Grant (o .ins))
   unfolding beCalled becomeFree
   called-active by e f =
+      ap₂ (λ (b c : Bool). cond (not b) (move (withCall by s) (sending Notify (o .out))) (cond c (move (withCall by s) nobody) (becomeFree o Itself (withCall by s)))) e f
+
+  pub called-again : (by : Why) → active o ≡ true → free s ≡ true → beCalled o by s ≡ move (withCall by s) nobody
+  unfolding beCalled
+  called-again by e f =
       ap₂ (λ (b c : Bool). cond (not b) (move (withCall by s) (sending Notify (o .out))) (cond c (move (withCall by s) nobody) (becomeFree o Itself (withCall by s)))) e f
 
   pub notify-again : (a : ℕ) → called s ≡ true → onNotify o a s ≡ answerWith Done a s

@@ -55,6 +55,6 @@ pub record Formed (o : Seen) (s : State) : Type 0 where
   pub uncalled : called s ≡ false → (s .notify ≡ 0) × (s .done ≡ 0)
   pub freer : Inside (senderOf (s .freed)) (s .grant)
   pub unfree : free s ≡ false → s .ack ≡ 0
-  pub leaf : active o ≡ true → (free s ≡ called s) × (senderOf (s .freed) ≡ 0)
-  pub branch : active o ≡ false → (free s ≡ o .holds (s .grant)) × (byItself (s .freed) ≡ false)
+  pub if-active : active o ≡ true → (free s ≡ called s) × (senderOf (s .freed) ≡ 0)
+  pub if-waiting : active o ≡ false → (free s ≡ o .holds (s .grant)) × (byItself (s .freed) ≡ false)
   pub senders : (k : Kind) → Inside (hadOf k s) (neighbours o k)

@@ -1,4 +1,5 @@
--- How one node behaves: an opening, and a message that isn't refused. Assumes nothing.
+-- How one node behaves: an opening, and a message that isn't refused. The rules stand in the order in which one needs the
+-- other; `openRound` and `receive`, at the end, are the whole step. Assumes nothing.
 use mathlib.Core.Bool.{Bool, true, cond, not, _&&_, _||_}
 use Prim.Native.Nat.{ℕ}
 use lib.Dec.{eqb}
@@ -33,11 +34,12 @@ seenIn w i = record { me = i; out = w .out i; holds = w .holds i; ins = inOf w i
 abbrev pub active : Seen → Bool
 active o = o .holds 0
 
--- ACK is in from all IN of a free node
+-- the node is free, and everybody who waits on it has answered ACK
 unfoldable pub acked : Seen → State → Bool
 acked o s = free s && inside (o .ins) (s .ack)
 
--- what a called node awaits is in: DONE from all OUT and, at an active node, ACK from all IN
+-- the node is called, and has all that it awaits then: DONE from everybody that it waits on and, if it is active, ACK from
+-- everybody who waits on it
 unfoldable pub complete : Seen → State → Bool
 complete o s = called s && (inside (o .out) (s .done) && (not (active o) || inside (o .ins) (s .ack)))
 
@@ -66,11 +68,12 @@ pub record Move : Type 0 where
 abbrev pub move : State → Receivers → Move
 move s sends = record { state = s; sends = sends }
 
--- Becoming free: GRANT goes to all IN.
+-- A node that becomes free grants to everybody who waits on it.
 unfoldable pub becomeFree : Seen → Why → State → Move
 becomeFree o by s = move (withFreed by s) (sending Grant (o .ins))
 
--- Being called. A node that isn't active sends NOTIFY to all OUT. An active node becomes free, once per round.
+-- A call is passed on with NOTIFY to everybody that the node waits on, whether or not it is free. An active node has nobody to
+-- pass it on to and becomes free, unless it is: that happens once a round.
 unfoldable pub beCalled : Seen → Why → State → Move
 beCalled o by s =
     cond (not (active o)) (move (withCall by s) (sending Notify (o .out)))
@@ -81,11 +84,13 @@ beCalled o by s =
 abbrev pub answerWith : Kind → ℕ → State → Move
 answerWith kind to s = move s (sending kind (single to))
 
--- NOTIFY. The first one to a node not yet called calls it; that sender is its caller. Every other sender gets DONE at once.
+-- NOTIFY calls a node that isn't called. Its sender is then the caller, whose DONE is held back; to a node that is called
+-- already it gets DONE at once.
 unfoldable pub onNotify : Seen → ℕ → State → Move
 onNotify o from s = cond (called s) (answerWith Done from s) (beCalled o (By (record { 0 = from })) s)
 
--- GRANT. If the node wasn't free and its condition now holds, it becomes free; otherwise ACK goes at once.
+-- GRANT frees a node that wasn't free and whose condition holds, its sender being marked. The sender is then the freer, whose
+-- ACK is held back; in every other case it gets ACK at once.
 unfoldable pub onGrant : Seen → ℕ → State → Move
 onGrant o from s = cond (not (free s) && o .holds (s .grant)) (becomeFree o (By (record { 0 = from })) s) (answerWith Ack from s)
 
@@ -114,8 +119,8 @@ pub record End : Type 0 where
   pub sends : Receivers
   pub verdict : Verdict
 
--- A node that was freed by another answers its GRANT when ACK is in from all IN. The caller gets DONE, or the round ends,
--- when what a called node awaits is in. Each goes in the step in which that comes about.
+-- What was held back: ACK to the freer in the step in which the node comes to be acked; DONE to the caller, or an initiator's
+-- verdict, in the step in which it comes to be complete.
 unfoldable pub settle : Seen → State → Move → End
 settle o before m = record {
   state = m .state;
@@ -141,7 +146,7 @@ saying say e = record { state = e .state; sends = e .sends; answer = say (e .ver
 abbrev pub still : State → Answer → Outcome
 still s answer = record { state = s; sends = nobody; answer = answer }
 
--- Opening. The initiator blanks its record into the new round and is called, with no caller.
+-- An initiator starts from a blank record in the new round, and is called by itself: nobody awaits its DONE.
 unfoldable pub openRound : Seen → ℕ → Outcome
 openRound o round = saying Opened (settle o (blankOf round) (beCalled o Itself (blankOf round)))
 
@@ -159,11 +164,11 @@ expects s Grant = true
 expects s Ack = free s
 expects s Done = called s
 
--- the wrong receiver, a sender that is no neighbour, or an answer to what this node didn't send in the message's round
+-- it isn't for this node, its sender is no neighbour for its kind, or it answers what this node didn't send in its round
 unfoldable pub stray : Seen → State → Letter → Bool
 stray o s m = not (eqb (m .to) (o .me)) || (not (has (neighbours o (m .kind)) (m .from)) || not (expects s (m .kind)))
 
--- A message that is taken: its sender is marked.
+-- A message that is taken: its sender is marked first.
 unfoldable pub take : Seen → State → Letter → Outcome
 take o s m = saying Taken (settle o s (react o (m .from) (markOf (m .kind) (m .from) s) (m .kind)))
 
@@ -174,6 +179,6 @@ arrive o r s m =
     (cond (has (hadOf (m .kind) s) (m .from)) (still r Repeat)
     (take o s m))
 
--- A delivery is old, stray, a repeat, or taken: the first that fits.
+-- What a delivery is: old, stray, a repeat or taken, the first that fits; all but taken change nothing.
 unfoldable pub receive : Seen → State → Letter → Outcome
 receive o r m = cond (behind (m .round) (r .round)) (still r Old) (arrive o r (inRound (m .round) r) m)

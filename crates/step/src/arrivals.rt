@@ -112,11 +112,11 @@ fn arrive(own: Own, was: Record, r: Record, m: Message) -> Stepped
     requires { ⌜ (m .from .0 < places) × Fitting (stateOf r) ⌝ }
     ensures { λ s. ⌜ outcomeOf s ≡ arrive-of (seenOf own) (stateOf was) (stateOf r) (letterOf m) ⌝ }
 {
-    let from = m.from;
+    let sender = m.from;
     if stray(own, r, m) {
         return still(was, Answer::Stray);
     }
-    if had(r, kind_of(m.kind)).has(from) {
+    if had(r, kind_of(m.kind)).has(sender) {
         return still(was, Answer::Repeat);
     }
     take(own, r, m)

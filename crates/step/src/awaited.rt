@@ -33,10 +33,11 @@ pub fn acked(own: Own, r: Record) -> bool
 {
     let freed = r.freed;
     let ins = own.ins;
+    let ack = r.ack;
     if !freed.happened() {
         return false;
     }
-    ins.inside(r.ack)
+    ins.inside(ack)
 }
 
 // Whether all is in that a called node awaits.

@@ -52,7 +52,7 @@ pub fn be_called(own: Own, by: Cause, r: Record) -> Did
     ensures { λ d. ⌜ moveOf d ≡ beCalled (seenOf own) (whyOf (by .0)) (stateOf r) ⌝ }
 {
     let row = own.row;
-    let freed = r.freed;
+    let already = r.freed;
     let called = Record { call: by, ..r };
     if !active(own) {
         return Did {
@@ -60,7 +60,7 @@ pub fn be_called(own: Own, by: Cause, r: Record) -> Did
             sends: send(Kind::Notify, out_of(row)),
         };
     }
-    if freed.happened() {
+    if already.happened() {
         return Did {
             state: called,
             sends: nobody(),

@@ -1,13 +1,9 @@
+-- `each` meets its contract. Assumes nothing.
 use Prim.Native.Nat.{_≤_, _-_}
 use native.Mathlib.Omega.{arith}
 use borrow.Author.Needs.{needs}
 use Rattle.alone.proofs.swept.each.Statement.{statement}
 use Rattle.alone.proofs.swept.each.Tie as tie
-use Rattle.alone.proofs.swept.each.Reads as reads
-use Rattle.alone.proofs.swept.each.Lts as lts
-use Rattle.alone.proofs.swept.record_of.Reads as record-of-reads
-use Rattle.alone.proofs.swept.tried.Reads as tried-reads
-use Rattle.say.proofs.text.Reads as text-reads
 
 abbrev Inv-loop : tie.InvT-loop
 Inv-loop label row k₀ k = k ≤ 18
@@ -15,43 +11,33 @@ Inv-loop label row k₀ k = k ≤ 18
 abbrev μ-loop : tie.MeasureT-loop
 μ-loop label row k₀ k = 18 - k
 
--- src/swept.rt:82:5
 text-requires : tie.Need-text-requires Inv-loop μ-loop
 text-requires c κs = search needs
 
--- src/swept.rt:84:5
 loop-holds : tie.Need-loop-holds Inv-loop μ-loop
 loop-holds c = omega arith
 
--- src/swept.rt:85:23
 mul-numbers : tie.Need-mul-numbers Inv-loop μ-loop
 mul-numbers c = search needs
 
--- src/swept.rt:85:23
 array-copy-out-numbers : tie.Need-array-copy-out-numbers Inv-loop μ-loop
 array-copy-out-numbers c = search needs
 
--- src/swept.rt:86:20
 record-of-requires : tie.Need-record-of-requires Inv-loop μ-loop
 record-of-requires c κs = search needs
 
--- src/swept.rt:86:9
 tried-requires : tie.Need-tried-requires Inv-loop μ-loop
 tried-requires c κs = search needs
 
--- src/swept.rt:87:9
 add-k : tie.Need-add-k Inv-loop μ-loop
 add-k c = omega arith
 
--- src/swept.rt:84:5
 loop-less : tie.Need-loop-less Inv-loop μ-loop
 loop-less c = omega arith
 
--- src/swept.rt:84:5
 loop-again : tie.Need-loop-again Inv-loop μ-loop
 loop-again c = omega arith
 
--- src/swept.rt:81:1
 returns : tie.Need-returns Inv-loop μ-loop
 returns c = search needs
 

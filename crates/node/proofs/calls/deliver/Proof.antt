@@ -1,50 +1,38 @@
-use Rattle.node.proofs.Whole.{received-as}
-use Rattle.node.proofs.Refused.{deliver-accepted}
-use Rattle.node.proofs.Whole.{own-row, call-refused, call-accepted}
-use Rattle.node.specs.Calls.{deliverOf}
-use Rattle.step.specs.Step.{Seen, receive}
+-- `deliver` meets its contract. Assumes nothing.
+use mathlib.Core.Path.{sym, _∙_}
 use native.Mathlib.Omega.{arith}
-use mathlib.Core.Path.{sym, ap, _∙_}
 use borrow.Author.Needs.{needs}
+use Rattle.node.specs.Calls.{deliverOf}
+use Rattle.node.proofs.Refused.{deliver-accepted}
+use Rattle.node.proofs.Whole.{received-as, own-row, call-refused, call-accepted}
 use Rattle.node.proofs.calls.deliver.Statement.{statement}
 use Rattle.node.proofs.calls.deliver.Tie as tie
-use Rattle.node.proofs.calls.deliver.Reads as reads
-use Rattle.node.proofs.calls.deliver.Lts as lts
-use Rattle.node.proofs.refusals.check_deliver.Reads as check-deliver-reads
-use Rattle.waits.proofs.row_at.Reads as row-at-reads
 
--- src/calls.rt:188:9
 check-deliver-requires : tie.Need-check-deliver-requires
 check-deliver-requires c κs = search needs
 
--- src/calls.rt:189:29
 enum-known-checked : tie.Need-enum-known-checked
 enum-known-checked c = search needs
 
--- src/calls.rt:190:9
 still-requires : tie.Need-still-requires
 still-requires c κs = search needs
 
--- src/calls.rt:190:9
 returns : tie.Need-returns
 unfolding deliverOf
-returns c = call-refused _ _ ((c .before .before .before .before .check-deliver .ensures)) ((c .before .before .checked .given .1)) ((c .still .ensures))
+returns c = call-refused _ _ (c .before .before .before .before .check-deliver .ensures) (c .before .before .checked .given .1) (c .still .ensures)
 
 enum-told : tie.Need-enum-told
 enum-told c = search needs
 
--- src/calls.rt:194:14
 row-at-requires : tie.Need-row-at-requires
-row-at-requires c κs = omega (arith, deliver-accepted _ _ _ _ _ _ (sym ((c .before .before .check-deliver .ensures)) ∙ (c .enum-told .given .1)) .0)
+row-at-requires c κs = omega (arith, deliver-accepted _ _ _ _ _ _ (sym (c .before .before .check-deliver .ensures) ∙ (c .enum-told .given .1)) .0)
 
--- src/calls.rt:197:5
 receive-requires : tie.Need-receive-requires
-receive-requires c κs = let p = deliver-accepted _ _ _ _ _ _ (sym ((c .before .before .before .check-deliver .ensures)) ∙ (c .before .enum-told .given .1)) in (p .1, p .2)
+receive-requires c κs = let p = deliver-accepted _ _ _ _ _ _ (sym (c .before .before .before .check-deliver .ensures) ∙ (c .before .enum-told .given .1)) in (p .1, p .2)
 
--- src/calls.rt:178:1
 returns-2 : tie.Need-returns-2
 unfolding deliverOf
-returns-2 c = call-accepted _ _ ((c .before .before .before .before .check-deliver .ensures)) ((c .before .before .enum-told .given .1)) (received-as _ _ ((c .receive .ensures)) (own-row _ _ _ ((c .before .row-at .ensures))))
+returns-2 c = call-accepted _ _ (c .before .before .before .before .check-deliver .ensures) (c .before .before .enum-told .given .1) (received-as _ _ (c .receive .ensures) (own-row _ _ _ (c .before .row-at .ensures)))
 
 pub deliver-spec : {M : Type 1} → statement M
 deliver-spec =

@@ -1,50 +1,38 @@
-use Rattle.node.proofs.Whole.{opened-as}
-use Rattle.node.proofs.Refused.{open-accepted}
-use Rattle.node.proofs.Whole.{own-row, call-refused, call-accepted}
-use Rattle.node.specs.Calls.{openOf}
-use Rattle.step.specs.Step.{Seen, openRound}
+-- `open` meets its contract. Assumes nothing.
+use mathlib.Core.Path.{sym, _∙_}
 use native.Mathlib.Omega.{arith}
-use mathlib.Core.Path.{sym, ap, _∙_}
 use borrow.Author.Needs.{needs}
+use Rattle.node.specs.Calls.{openOf}
+use Rattle.node.proofs.Refused.{open-accepted}
+use Rattle.node.proofs.Whole.{opened-as, own-row, call-refused, call-accepted}
 use Rattle.node.proofs.calls.open.Statement.{statement}
 use Rattle.node.proofs.calls.open.Tie as tie
-use Rattle.node.proofs.calls.open.Reads as reads
-use Rattle.node.proofs.calls.open.Lts as lts
-use Rattle.node.proofs.refusals.check_open.Reads as check-open-reads
-use Rattle.waits.proofs.row_at.Reads as row-at-reads
 
--- src/calls.rt:165:9
 check-open-requires : tie.Need-check-open-requires
 check-open-requires c κs = search needs
 
--- src/calls.rt:166:29
 enum-known-checked : tie.Need-enum-known-checked
 enum-known-checked c = search needs
 
--- src/calls.rt:167:9
 still-requires : tie.Need-still-requires
 still-requires c κs = search needs
 
--- src/calls.rt:167:9
 returns : tie.Need-returns
 unfolding openOf
-returns c = call-refused _ _ ((c .before .before .before .before .check-open .ensures)) ((c .before .before .checked .given .1)) ((c .still .ensures))
+returns c = call-refused _ _ (c .before .before .before .before .check-open .ensures) (c .before .before .checked .given .1) (c .still .ensures)
 
 enum-told : tie.Need-enum-told
 enum-told c = search needs
 
--- src/calls.rt:171:14
 row-at-requires : tie.Need-row-at-requires
-row-at-requires c κs = omega (arith, open-accepted _ _ _ _ _ _ (sym ((c .before .before .check-open .ensures)) ∙ (c .enum-told .given .1)))
+row-at-requires c κs = omega (arith, open-accepted _ _ _ _ _ _ (sym (c .before .before .check-open .ensures) ∙ (c .enum-told .given .1)))
 
--- src/calls.rt:174:5
 open-round-requires : tie.Need-open-round-requires
 open-round-requires c κs = search needs
 
--- src/calls.rt:155:1
 returns-2 : tie.Need-returns-2
 unfolding openOf
-returns-2 c = call-accepted _ _ ((c .before .before .before .before .check-open .ensures)) ((c .before .before .enum-told .given .1)) (opened-as _ ((c .open-round .ensures)) (own-row _ _ _ ((c .before .row-at .ensures))))
+returns-2 c = call-accepted _ _ (c .before .before .before .before .check-open .ensures) (c .before .before .enum-told .given .1) (opened-as _ (c .open-round .ensures) (own-row _ _ _ (c .before .row-at .ensures)))
 
 pub open-spec : {M : Type 1} → statement M
 open-spec =

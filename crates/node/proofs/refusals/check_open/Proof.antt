@@ -1,48 +1,35 @@
-use Rattle.node.proofs.Refused.{open-refused}
-use Rattle.waits.specs.Numbers.{line}
-use Rattle.node.proofs.Refused.{open-next}
-use Rattle.waits.proofs.Next.{refused-before, refused-here, not-refused}
-use Rattle.lemmas.proofs.Cases.{flag}
+-- `check_open` meets its contract. Assumes nothing.
 use mathlib.Core.Path.{sym, _∙_}
 use borrow.Author.Needs.{needs}
+use Rattle.lemmas.proofs.Cases.{flag}
+use Rattle.waits.proofs.Next.{refused-here, not-refused}
+use Rattle.node.proofs.Refused.{open-refused, open-next}
 use Rattle.node.proofs.refusals.check_open.Statement.{statement}
 use Rattle.node.proofs.refusals.check_open.Tie as tie
-use Rattle.node.proofs.refusals.check_open.Reads as reads
-use Rattle.node.proofs.refusals.check_open.Lts as lts
-use Rattle.node.proofs.refusals.cannot_open.Reads as cannot-open-reads
-use Rattle.node.proofs.refusals.check_kept.Reads as check-kept-reads
-use Rattle.waits.proofs.refused.Reads as refused-reads
 
--- src/refusals.rt:93:9
 check-kept-requires : tie.Need-check-kept-requires
 check-kept-requires c κs = search needs
 
--- src/refusals.rt:94:29
 enum-known-checked : tie.Need-enum-known-checked
 enum-known-checked c = search needs
 
--- src/refusals.rt:95:9
 returns : tie.Need-returns
-returns c = open-refused _ _ _ _ _ _ (sym ((c .before .before .before .check-kept .ensures)) ∙ (c .before .checked .given .1))
+returns c = open-refused _ _ _ _ _ _ (sym (c .before .before .before .check-kept .ensures) ∙ (c .before .checked .given .1))
 
 enum-told : tie.Need-enum-told
 enum-told c = search needs
 
--- src/refusals.rt:98:8
 cannot-open-requires : tie.Need-cannot-open-requires
 cannot-open-requires c κs = search needs
 
--- src/refusals.rt:99:9
 refused-requires : tie.Need-refused-requires
 refused-requires c κs = search needs
 
--- src/refusals.rt:99:9
 returns-2 : tie.Need-returns-2
-returns-2 c = ((c .refused .ensures)) ∙ refused-here _ (open-next _ _ _ _ _ _) (sym ((c .before .before .before .before .before .before .check-kept .ensures)) ∙ (c .before .before .before .before .enum-told .given .1)) (flag ((c .before .before .cannot-open .ensures)) ((c .before .if1 .taken)))
+returns-2 c = (c .refused .ensures) ∙ refused-here _ (open-next _ _ _ _ _ _) (sym (c .before .before .before .before .before .before .check-kept .ensures) ∙ (c .before .before .before .before .enum-told .given .1)) (flag (c .before .before .cannot-open .ensures) (c .before .if1 .taken))
 
--- src/refusals.rt:83:1
 returns-3 : tie.Need-returns-3
-returns-3 c = not-refused _ (open-next _ _ _ _ _ _) (sym ((c .before .before .before .before .before .check-kept .ensures)) ∙ (c .before .before .before .enum-told .given .1)) (flag ((c .before .cannot-open .ensures)) ((c .if1 .left)))
+returns-3 c = not-refused _ (open-next _ _ _ _ _ _) (sym (c .before .before .before .before .before .check-kept .ensures) ∙ (c .before .before .before .enum-told .given .1)) (flag (c .before .cannot-open .ensures) (c .if1 .left))
 
 pub check-open-spec : {M : Type 1} → statement M
 check-open-spec =

@@ -1,57 +1,41 @@
-use Rattle.node.proofs.Refused.{right-own, row-checked}
-use Rattle.node.proofs.Refused.{right-own}
-use Rattle.node.specs.Refusals.{checkOwnOf}
-use Rattle.waits.specs.Numbers.{rowLines, firstSaid, checkRowOf}
-use Rattle.waits.specs.declared.rows.Row.{Row}
-use Rattle.nodes.specs.Sets.{noNode}
-use Rattle.lemmas.proofs.Cases.{at-true, at-false, flag}
-use borrow.Author.Tests.{le-leb, lt-leb}
+-- `check_own` meets its contract. Assumes nothing.
 use native.Mathlib.Omega.{arith}
-use mathlib.Core.Path.{ap, _∙_}
 use borrow.Author.Needs.{needs}
+use borrow.Author.Tests.{le-leb, lt-leb}
+use Rattle.lemmas.proofs.Cases.{at-true, at-false, flag}
+use Rattle.nodes.specs.Sets.{noNode}
+use Rattle.waits.specs.Numbers.{checkRowOf}
+use Rattle.node.specs.Refusals.{checkOwnOf}
+use Rattle.node.proofs.Refused.{right-own, row-checked}
 use Rattle.node.proofs.refusals.check_own.Statement.{statement}
 use Rattle.node.proofs.refusals.check_own.Tie as tie
-use Rattle.node.proofs.refusals.check_own.Reads as reads
-use Rattle.node.proofs.refusals.check_own.Lts as lts
-use Rattle.node.proofs.refusals.wrong_own.Reads as wrong-own-reads
-use Rattle.waits.proofs.check_row.Reads as check-row-reads
-use Rattle.waits.proofs.refused.Reads as refused-reads
-use Rattle.waits.proofs.row_at.Reads as row-at-reads
 
--- src/refusals.rt:38:8
 wrong-own-requires : tie.Need-wrong-own-requires
 wrong-own-requires c κs = search needs
 
--- src/refusals.rt:39:9
 refused-requires : tie.Need-refused-requires
 refused-requires c κs = search needs
 
--- src/refusals.rt:39:9
 returns : tie.Need-returns
 unfolding checkOwnOf
-returns c = at-true _ (flag ((c .before .before .wrong-own .ensures)) ((c .before .if1 .taken))) ((c .refused .ensures))
+returns c = at-true _ (flag (c .before .before .wrong-own .ensures) (c .before .if1 .taken)) (c .refused .ensures)
 
--- src/refusals.rt:42:9
 refused-requires-2 : tie.Need-refused-requires-2
 refused-requires-2 c κs = search needs
 
--- src/refusals.rt:42:9
 returns-2 : tie.Need-returns-2
 unfolding checkOwnOf noNode
-returns-2 c = at-false _ (flag ((c .before .before .before .before .wrong-own .ensures)) ((c .before .before .before .if1 .left))) (at-true _ (le-leb _ _ ((c .before .if2 .taken))) ((c .refused2 .ensures)))
+returns-2 c = at-false _ (flag (c .before .before .before .before .wrong-own .ensures) (c .before .before .before .if1 .left)) (at-true _ (le-leb _ _ (c .before .if2 .taken)) (c .refused2 .ensures))
 
--- src/refusals.rt:44:26
 row-at-requires : tie.Need-row-at-requires
-row-at-requires c κs = omega (arith, right-own _ _ (flag ((c .before .before .before .wrong-own .ensures)) ((c .before .before .if1 .left))) .1)
+row-at-requires c κs = omega (arith, right-own _ _ (flag (c .before .before .before .wrong-own .ensures) (c .before .before .if1 .left)) .1)
 
--- src/refusals.rt:44:5
 check-row-requires : tie.Need-check-row-requires
-check-row-requires c κs = right-own _ _ (flag ((c .before .before .before .before .wrong-own .ensures)) ((c .before .before .before .if1 .left))) .0
+check-row-requires c κs = right-own _ _ (flag (c .before .before .before .before .wrong-own .ensures) (c .before .before .before .if1 .left)) .0
 
--- src/refusals.rt:35:1
 returns-3 : tie.Need-returns-3
 unfolding checkOwnOf noNode checkRowOf
-returns-3 c = at-false _ (flag ((c .before .before .before .before .before .wrong-own .ensures)) ((c .before .before .before .before .if1 .left))) (at-false _ (lt-leb _ _ ((c .before .before .if2 .left))) (row-checked _ _ _ ((c .check-row .ensures)) ((c .before .row-at .ensures))))
+returns-3 c = at-false _ (flag (c .before .before .before .before .before .wrong-own .ensures) (c .before .before .before .before .if1 .left)) (at-false _ (lt-leb _ _ (c .before .before .if2 .left)) (row-checked _ _ _ (c .check-row .ensures) (c .before .row-at .ensures)))
 
 pub check-own-spec : {M : Type 1} → statement M
 check-own-spec =

@@ -1,30 +1,23 @@
-use Rattle.node.specs.Refusals.{strangeKept}
-use Rattle.lemmas.proofs.Cases.{or-here, or-later, flag}
+-- `strange_kept` meets its contract. Assumes nothing.
 use borrow.Author.Needs.{needs}
+use Rattle.lemmas.proofs.Cases.{or-here, or-later, flag}
+use Rattle.node.specs.Refusals.{strangeKept}
 use Rattle.node.proofs.refusals.strange_kept.Statement.{statement}
 use Rattle.node.proofs.refusals.strange_kept.Tie as tie
-use Rattle.node.proofs.refusals.strange_kept.Reads as reads
-use Rattle.node.proofs.refusals.strange_kept.Lts as lts
-use Rattle.records.proofs.strange_record.Reads as strange-record-reads
-use Rattle.records.proofs.strange_set.Reads as strange-set-reads
 
--- src/refusals.rt:52:8
 strange-record-requires : tie.Need-strange-record-requires
 strange-record-requires c κs = search needs
 
--- src/refusals.rt:53:9
 returns : tie.Need-returns
 unfolding strangeKept
-returns c = or-here _ (flag ((c .before .strange-record .ensures)) ((c .if1 .taken)))
+returns c = or-here _ (flag (c .before .strange-record .ensures) (c .if1 .taken))
 
--- src/refusals.rt:55:5
 strange-set-requires : tie.Need-strange-set-requires
 strange-set-requires c κs = search needs
 
--- src/refusals.rt:48:1
 returns-2 : tie.Need-returns-2
 unfolding strangeKept
-returns-2 c = or-later (flag ((c .before .before .strange-record .ensures)) ((c .before .if1 .left))) ((c .strange-set .ensures))
+returns-2 c = or-later (flag (c .before .before .strange-record .ensures) (c .before .if1 .left)) (c .strange-set .ensures)
 
 pub strange-kept-spec : {M : Type 1} → statement M
 strange-kept-spec =

@@ -1,60 +1,43 @@
-use Rattle.step.proofs.Said.{had-before}
-use Rattle.step.specs.Step.{arrive}
-use Rattle.lemmas.proofs.Cases.{at-true, at-false, flag}
+-- `arrive` meets its contract. Assumes nothing.
 use borrow.Author.Needs.{needs}
+use Rattle.lemmas.proofs.Cases.{at-true, at-false, flag}
+use Rattle.step.specs.Step.{arrive}
+use Rattle.step.proofs.Said.{had-before}
 use Rattle.step.proofs.arrivals.arrive.Statement.{statement}
 use Rattle.step.proofs.arrivals.arrive.Tie as tie
-use Rattle.step.proofs.arrivals.arrive.Reads as reads
-use Rattle.step.proofs.arrivals.arrive.Lts as lts
-use Rattle.step.proofs.answers.still.Reads as still-reads
-use Rattle.step.proofs.arrivals.stray.Reads as stray-reads
-use Rattle.step.proofs.arrivals.take.Reads as take-reads
-use Rattle.nodes.proofs.Set.has.Reads as has-reads
-use Rattle.records.proofs.kind_of.Reads as kind-of-reads
-use Rattle.records.proofs.had.Reads as had-reads
 
--- src/calls.rt:133:8
 stray-requires : tie.Need-stray-requires
 stray-requires c κs = search needs
 
--- src/calls.rt:134:9
 still-requires : tie.Need-still-requires
 still-requires c κs = search needs
 
--- src/calls.rt:134:9
 returns : tie.Need-returns
 unfolding arrive
-returns c = at-true _ (flag ((c .before .before .stray .ensures)) ((c .before .if1 .taken))) ((c .still .ensures))
+returns c = at-true _ (flag (c .before .before .stray .ensures) (c .before .if1 .taken)) (c .still .ensures)
 
--- src/calls.rt:136:15
 kind-of-requires : tie.Need-kind-of-requires
 kind-of-requires c κs = search needs
 
--- src/calls.rt:136:8
 had-requires : tie.Need-had-requires
 had-requires c κs = search needs
 
--- src/calls.rt:136:8
 has-requires : tie.Need-has-requires
 has-requires c κs = search needs
 
--- src/calls.rt:137:9
 still-requires-2 : tie.Need-still-requires-2
 still-requires-2 c κs = search needs
 
--- src/calls.rt:137:9
 returns-2 : tie.Need-returns-2
 unfolding arrive
-returns-2 c = at-false _ (flag ((c .before .before .before .before .before .before .stray .ensures)) ((c .before .before .before .before .before .if1 .left))) (at-true _ (had-before _ _ _ ((c .before .before .before .before .kind-of .ensures)) ((c .before .before .before .had .ensures)) ((c .before .before .has .ensures)) ((c .before .if2 .taken))) ((c .still2 .ensures)))
+returns-2 c = at-false _ (flag (c .before .before .before .before .before .before .stray .ensures) (c .before .before .before .before .before .if1 .left)) (at-true _ (had-before _ _ _ (c .before .before .before .before .kind-of .ensures) (c .before .before .before .had .ensures) (c .before .before .has .ensures) (c .before .if2 .taken)) (c .still2 .ensures))
 
--- src/calls.rt:139:5
 take-requires : tie.Need-take-requires
 take-requires c κs = search needs
 
--- src/calls.rt:128:1
 returns-3 : tie.Need-returns-3
 unfolding arrive
-returns-3 c = at-false _ (flag ((c .before .before .before .before .before .before .stray .ensures)) ((c .before .before .before .before .before .if1 .left))) (at-false _ (had-before _ _ _ ((c .before .before .before .before .kind-of .ensures)) ((c .before .before .before .had .ensures)) ((c .before .before .has .ensures)) ((c .before .if2 .left))) ((c .take .ensures)))
+returns-3 c = at-false _ (flag (c .before .before .before .before .before .before .stray .ensures) (c .before .before .before .before .before .if1 .left)) (at-false _ (had-before _ _ _ (c .before .before .before .before .kind-of .ensures) (c .before .before .before .had .ensures) (c .before .before .has .ensures) (c .before .if2 .left)) (c .take .ensures))
 
 pub arrive-spec : {M : Type 1} → statement M
 arrive-spec =

@@ -1,52 +1,40 @@
-use Rattle.step.specs.Step.{neighbours}
-use Rattle.lemmas.proofs.Cases.{in-arm}
+-- `neighbours` meets its contract. Assumes nothing.
 use mathlib.Core.Path.{refl}
 use borrow.Author.Needs.{needs}
+use Rattle.lemmas.proofs.Cases.{in-arm}
+use Rattle.step.specs.Step.{neighbours}
 use Rattle.step.proofs.arrivals.neighbours.Statement.{statement}
 use Rattle.step.proofs.arrivals.neighbours.Tie as tie
-use Rattle.step.proofs.arrivals.neighbours.Reads as reads
-use Rattle.step.proofs.arrivals.neighbours.Lts as lts
-use Rattle.waits.proofs.out_of.Reads as out-of-reads
 
--- src/calls.rt:72:25
 enum-told : tie.Need-enum-told
 enum-told c = search needs
 
--- src/calls.rt:73:24
 enum-told-2 : tie.Need-enum-told-2
 enum-told-2 c = search needs
 
--- src/calls.rt:73:24
 out-of-requires : tie.Need-out-of-requires
 out-of-requires c κs = search needs
 
--- src/calls.rt:74:22
 enum-told-3 : tie.Need-enum-told-3
 enum-told-3 c = search needs
 
--- src/calls.rt:75:23
 enum-told-4 : tie.Need-enum-told-4
 enum-told-4 c = search needs
 
--- src/calls.rt:75:23
 out-of-requires-2 : tie.Need-out-of-requires-2
 out-of-requires-2 c κs = search needs
 
--- src/calls.rt:67:1
 returns : tie.Need-returns
-returns c = in-arm (neighbours _) ((c .before .enum-told .given .1)) refl
+returns c = in-arm (neighbours _) (c .before .enum-told .given .1) refl
 
--- src/calls.rt:67:1
 returns-2 : tie.Need-returns-2
-returns-2 c = in-arm (neighbours _) ((c .before .enum-told2 .given .1)) ((c .out-of .ensures))
+returns-2 c = in-arm (neighbours _) (c .before .enum-told2 .given .1) (c .out-of .ensures)
 
--- src/calls.rt:67:1
 returns-3 : tie.Need-returns-3
-returns-3 c = in-arm (neighbours _) ((c .before .enum-told3 .given .1)) refl
+returns-3 c = in-arm (neighbours _) (c .before .enum-told3 .given .1) refl
 
--- src/calls.rt:67:1
 returns-4 : tie.Need-returns-4
-returns-4 c = in-arm (neighbours _) ((c .before .enum-told4 .given .1)) ((c .out-of2 .ensures))
+returns-4 c = in-arm (neighbours _) (c .before .enum-told4 .given .1) (c .out-of2 .ensures)
 
 pub neighbours-spec : {M : Type 1} → statement M
 neighbours-spec =

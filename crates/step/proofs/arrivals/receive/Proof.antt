@@ -1,44 +1,31 @@
-use Rattle.step.proofs.Said.{arrived-as}
-use Rattle.records.proofs.Fits.{round-fits, same-fits}
-use Rattle.step.specs.Step.{arrive, receive}
-use Rattle.records.specs.Records.{State}
-use Rattle.lemmas.proofs.Cases.{at-true, at-false, flag}
-use mathlib.Core.Path.{ap, _∙_}
+-- `receive` meets its contract. Assumes nothing.
 use borrow.Author.Needs.{needs}
+use Rattle.lemmas.proofs.Cases.{at-true, at-false, flag}
+use Rattle.records.proofs.Fits.{round-fits, same-fits}
+use Rattle.step.specs.Step.{receive}
+use Rattle.step.proofs.Said.{arrived-as}
 use Rattle.step.proofs.arrivals.receive.Statement.{statement}
 use Rattle.step.proofs.arrivals.receive.Tie as tie
-use Rattle.step.proofs.arrivals.receive.Reads as reads
-use Rattle.step.proofs.arrivals.receive.Lts as lts
-use Rattle.step.proofs.arrivals.arrive.Reads as arrive-reads
-use Rattle.step.proofs.answers.still.Reads as still-reads
-use Rattle.records.proofs.in_round.Reads as in-round-reads
-use Rattle.records.proofs.behind.Reads as behind-reads
 
--- src/calls.rt:149:8
 behind-requires : tie.Need-behind-requires
 behind-requires c κs = search needs
 
--- src/calls.rt:150:9
 still-requires : tie.Need-still-requires
 still-requires c κs = search needs
 
--- src/calls.rt:150:9
 returns : tie.Need-returns
 unfolding receive
-returns c = at-true _ (flag ((c .before .before .behind .ensures)) ((c .before .if1 .taken))) ((c .still .ensures))
+returns c = at-true _ (flag (c .before .before .behind .ensures) (c .before .if1 .taken)) (c .still .ensures)
 
--- src/calls.rt:152:20
 in-round-requires : tie.Need-in-round-requires
 in-round-requires c κs = search needs
 
--- src/calls.rt:152:5
 arrive-requires : tie.Need-arrive-requires
-arrive-requires c κs = ((c .before .before .before .before .before .pre .0), same-fits ((c .in-round .ensures)) (round-fits _ _ ((c .before .before .before .before .before .pre .1))))
+arrive-requires c κs = ((c .before .before .before .before .before .pre .0), same-fits (c .in-round .ensures) (round-fits _ _ (c .before .before .before .before .before .pre .1)))
 
--- src/calls.rt:143:1
 returns-2 : tie.Need-returns-2
 unfolding receive
-returns-2 c = at-false _ (flag ((c .before .before .before .behind .ensures)) ((c .before .before .if1 .left))) (arrived-as _ _ _ ((c .arrive .ensures)) ((c .before .in-round .ensures)))
+returns-2 c = at-false _ (flag (c .before .before .before .behind .ensures) (c .before .before .if1 .left)) (arrived-as _ _ _ (c .arrive .ensures) (c .before .in-round .ensures))
 
 pub receive-spec : {M : Type 1} → statement M
 receive-spec =

@@ -1,37 +1,26 @@
-use Rattle.step.specs.Views.{seenOf}
+-- `take` meets its contract. Assumes nothing.
+use borrow.Author.Needs.{needs}
 use Rattle.records.specs.Records.{stateOf}
+use Rattle.step.specs.Views.{seenOf}
 use Rattle.step.proofs.Fits.{take-fits}
 use Rattle.step.proofs.Said.{takes}
-use mathlib.Core.Path.{_∙_}
-use borrow.Author.Needs.{needs}
 use Rattle.step.proofs.arrivals.take.Statement.{statement}
 use Rattle.step.proofs.arrivals.take.Tie as tie
-use Rattle.step.proofs.arrivals.take.Reads as reads
-use Rattle.step.proofs.arrivals.take.Lts as lts
-use Rattle.step.proofs.steps.react.Reads as react-reads
-use Rattle.step.proofs.steps.settle.Reads as settle-reads
-use Rattle.records.proofs.kind_of.Reads as kind-of-reads
-use Rattle.records.proofs.mark.Reads as mark-reads
 
--- src/calls.rt:113:9
 kind-of-requires : tie.Need-kind-of-requires
 kind-of-requires c κs = search needs
 
--- src/calls.rt:115:38
 mark-requires : tie.Need-mark-requires
 mark-requires c κs = search needs
 
--- src/calls.rt:115:9
 react-requires : tie.Need-react-requires
 react-requires c κs = search needs
 
--- src/calls.rt:116:9
 settle-requires : tie.Need-settle-requires
-settle-requires c κs = take-fits (seenOf ((c .before .before .before .before .args .own))) (stateOf ((c .before .before .before .before .args .r))) ((c .before .before .before .before .args .m .from .0)) ((c .before .before .before .kind-of .result)) ((c .react .ensures)) ((c .before .mark .ensures)) ((c .before .before .before .before .pre .1)) ((c .before .before .before .before .pre .0))
+settle-requires c κs = take-fits (seenOf (c .before .before .before .before .args .own)) (stateOf (c .before .before .before .before .args .r)) (c .before .before .before .before .args .m .from .0) (c .before .before .before .kind-of .result) (c .react .ensures) (c .before .mark .ensures) (c .before .before .before .before .pre .1) (c .before .before .before .before .pre .0)
 
--- src/calls.rt:109:1
 returns : tie.Need-returns
-returns c = takes _ _ _ ((c .before .before .before .before .before .before .kind-of .ensures)) ((c .before .before .before .before .mark .ensures)) ((c .before .before .before .react .ensures)) ((c .before .before .settle .ensures))
+returns c = takes _ _ _ (c .before .before .before .before .before .before .kind-of .ensures) (c .before .before .before .before .mark .ensures) (c .before .before .before .react .ensures) (c .before .before .settle .ensures)
 
 pub take-spec : {M : Type 1} → statement M
 take-spec =

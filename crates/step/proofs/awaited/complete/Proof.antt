@@ -1,60 +1,44 @@
-use Rattle.step.proofs.Said.{out-inside}
-use Rattle.step.specs.Step.{complete}
-use Rattle.nodes.specs.Sets.{inside}
-use Rattle.lemmas.proofs.Cases.{and-not, and-also, or-here, or-later, flag}
-use borrow.Author.Tests.{not-true, not-false}
-use Prim.Native.Nat.{ℕ}
-use mathlib.Core.Path.{ap, _∙_}
+-- `complete` meets its contract. Assumes nothing.
 use mathlib.Core.Bool.{not}
+use mathlib.Core.Path.{ap}
 use borrow.Author.Needs.{needs}
+use borrow.Author.Tests.{not-true, not-false}
+use Rattle.lemmas.proofs.Cases.{and-not, and-also, or-here, or-later, flag}
+use Rattle.step.specs.Step.{complete}
+use Rattle.step.proofs.Said.{out-inside}
 use Rattle.step.proofs.awaited.complete.Statement.{statement}
 use Rattle.step.proofs.awaited.complete.Tie as tie
-use Rattle.step.proofs.awaited.complete.Reads as reads
-use Rattle.step.proofs.awaited.complete.Lts as lts
-use Rattle.step.proofs.awaited.active.Reads as active-reads
-use Rattle.nodes.proofs.Set.inside.Reads as inside-reads
-use Rattle.records.proofs.causes.Cause.happened.Reads as happened-reads
-use Rattle.waits.proofs.out_of.Reads as out-of-reads
 
--- src/awaited.rt:49:9
 happened-requires : tie.Need-happened-requires
 happened-requires c κs = search needs
 
--- src/awaited.rt:50:9
 returns : tie.Need-returns
 unfolding complete
-returns c = and-not _ (flag ((c .before .happened .ensures)) (not-true _ ((c .if1 .taken))))
+returns c = and-not _ (flag (c .before .happened .ensures) (not-true _ (c .if1 .taken)))
 
--- src/awaited.rt:52:9
 out-of-requires : tie.Need-out-of-requires
 out-of-requires c κs = search needs
 
--- src/awaited.rt:52:9
 inside-requires : tie.Need-inside-requires
 inside-requires c κs = search needs
 
--- src/awaited.rt:53:9
 returns-2 : tie.Need-returns-2
 unfolding complete
-returns-2 c = and-also (flag ((c .before .before .before .before .happened .ensures)) (not-false _ ((c .before .before .before .if1 .left)))) (and-not _ (flag (out-inside _ ((c .before .inside .ensures)) ((c .before .before .out-of .ensures))) (not-true _ ((c .if2 .taken)))))
+returns-2 c = and-also (flag (c .before .before .before .before .happened .ensures) (not-false _ (c .before .before .before .if1 .left))) (and-not _ (flag (out-inside _ (c .before .inside .ensures) (c .before .before .out-of .ensures)) (not-true _ (c .if2 .taken))))
 
--- src/awaited.rt:55:9
 active-requires : tie.Need-active-requires
 active-requires c κs = search needs
 
--- src/awaited.rt:56:9
 returns-3 : tie.Need-returns-3
 unfolding complete
-returns-3 c = and-also (flag ((c .before .before .before .before .before .before .happened .ensures)) (not-false _ ((c .before .before .before .before .before .if1 .left)))) (and-also (flag (out-inside _ ((c .before .before .before .inside .ensures)) ((c .before .before .before .before .out-of .ensures))) (not-false _ ((c .before .before .if2 .left)))) (or-here _ (flag (ap not ((c .before .active .ensures))) ((c .if3 .taken)))))
+returns-3 c = and-also (flag (c .before .before .before .before .before .before .happened .ensures) (not-false _ (c .before .before .before .before .before .if1 .left))) (and-also (flag (out-inside _ (c .before .before .before .inside .ensures) (c .before .before .before .before .out-of .ensures)) (not-false _ (c .before .before .if2 .left))) (or-here _ (flag (ap not (c .before .active .ensures)) (c .if3 .taken))))
 
--- src/awaited.rt:58:5
 inside-requires-2 : tie.Need-inside-requires-2
 inside-requires-2 c κs = search needs
 
--- src/awaited.rt:43:1
 returns-4 : tie.Need-returns-4
 unfolding complete
-returns-4 c = and-also (flag ((c .before .before .before .before .before .before .before .happened .ensures)) (not-false _ ((c .before .before .before .before .before .before .if1 .left)))) (and-also (flag (out-inside _ ((c .before .before .before .before .inside .ensures)) ((c .before .before .before .before .before .out-of .ensures))) (not-false _ ((c .before .before .before .if2 .left)))) (or-later (flag (ap not ((c .before .before .active .ensures))) ((c .before .if3 .left))) ((c .inside2 .ensures))))
+returns-4 c = and-also (flag (c .before .before .before .before .before .before .before .happened .ensures) (not-false _ (c .before .before .before .before .before .before .if1 .left))) (and-also (flag (out-inside _ (c .before .before .before .before .inside .ensures) (c .before .before .before .before .before .out-of .ensures)) (not-false _ (c .before .before .before .if2 .left))) (or-later (flag (ap not (c .before .before .active .ensures)) (c .before .if3 .left)) (c .inside2 .ensures)))
 
 pub complete-spec : {M : Type 1} → statement M
 complete-spec =

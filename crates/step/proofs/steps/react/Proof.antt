@@ -1,62 +1,46 @@
-use Rattle.step.specs.Step.{move, react}
-use Rattle.lemmas.proofs.Cases.{in-arm}
+-- `react` meets its contract. Assumes nothing.
 use mathlib.Core.Path.{ap}
 use borrow.Author.Needs.{needs}
+use Rattle.lemmas.proofs.Cases.{in-arm}
+use Rattle.step.specs.Step.{move, react}
 use Rattle.step.proofs.steps.react.Statement.{statement}
 use Rattle.step.proofs.steps.react.Tie as tie
-use Rattle.step.proofs.steps.react.Reads as reads
-use Rattle.step.proofs.steps.react.Lts as lts
-use Rattle.step.proofs.sends.nobody.Reads as nobody-reads
-use Rattle.step.proofs.steps.on_grant.Reads as on-grant-reads
-use Rattle.step.proofs.steps.on_notify.Reads as on-notify-reads
 
--- src/steps.rt:123:25
 enum-told : tie.Need-enum-told
 enum-told c = search needs
 
--- src/steps.rt:123:25
 on-notify-requires : tie.Need-on-notify-requires
 on-notify-requires c κs = search needs
 
--- src/steps.rt:124:24
 enum-told-2 : tie.Need-enum-told-2
 enum-told-2 c = search needs
 
--- src/steps.rt:124:24
 on-grant-requires : tie.Need-on-grant-requires
 on-grant-requires c κs = search needs
 
--- src/steps.rt:127:20
 enum-told-3 : tie.Need-enum-told-3
 enum-told-3 c = search needs
 
--- src/steps.rt:127:20
 nobody-requires : tie.Need-nobody-requires
 nobody-requires c κs = search needs
 
--- src/steps.rt:131:20
 enum-told-4 : tie.Need-enum-told-4
 enum-told-4 c = search needs
 
--- src/steps.rt:131:20
 nobody-requires-2 : tie.Need-nobody-requires-2
 nobody-requires-2 c κs = search needs
 
--- src/steps.rt:118:1
 returns : tie.Need-returns
-returns c = in-arm (react _ _ _) ((c .before .enum-told .given .1)) ((c .on-notify .ensures))
+returns c = in-arm (react _ _ _) (c .before .enum-told .given .1) (c .on-notify .ensures)
 
--- src/steps.rt:118:1
 returns-2 : tie.Need-returns-2
-returns-2 c = in-arm (react _ _ _) ((c .before .enum-told2 .given .1)) ((c .on-grant .ensures))
+returns-2 c = in-arm (react _ _ _) (c .before .enum-told2 .given .1) (c .on-grant .ensures)
 
--- src/steps.rt:118:1
 returns-3 : tie.Need-returns-3
-returns-3 c = in-arm (react _ _ _) ((c .before .enum-told3 .given .1)) (ap (move _) ((c .nobody .ensures)))
+returns-3 c = in-arm (react _ _ _) (c .before .enum-told3 .given .1) (ap (move _) (c .nobody .ensures))
 
--- src/steps.rt:118:1
 returns-4 : tie.Need-returns-4
-returns-4 c = in-arm (react _ _ _) ((c .before .enum-told4 .given .1)) (ap (move _) ((c .nobody2 .ensures)))
+returns-4 c = in-arm (react _ _ _) (c .before .enum-told4 .given .1) (ap (move _) (c .nobody2 .ensures))
 
 pub react-spec : {M : Type 1} → statement M
 react-spec =

@@ -1,42 +1,33 @@
-use Rattle.step.specs.Step.{verdictOf}
-use Rattle.lemmas.proofs.Cases.{and-not, and-also, at-true, at-false, flag}
-use borrow.Author.Tests.{not-true, not-false}
+-- `verdict` meets its contract. Assumes nothing.
 use mathlib.Core.Path.{refl, sym}
 use borrow.Author.Needs.{needs}
+use borrow.Author.Tests.{not-true, not-false}
+use Rattle.lemmas.proofs.Cases.{and-not, and-also, at-true, at-false, flag}
+use Rattle.step.specs.Step.{verdictOf}
 use Rattle.step.proofs.steps.verdict.Statement.{statement}
 use Rattle.step.proofs.steps.verdict.Tie as tie
-use Rattle.step.proofs.steps.verdict.Reads as reads
-use Rattle.step.proofs.steps.verdict.Lts as lts
-use Rattle.records.proofs.causes.Cause.by_itself.Reads as by-itself-reads
-use Rattle.records.proofs.causes.Cause.happened.Reads as happened-reads
 
--- src/steps.rt:143:9
 returns : tie.Need-returns
 unfolding verdictOf
-returns c = at-false _ (sym (and-not _ (not-true ((c .before .before .before .args .ended)) ((c .if1 .taken))))) refl
+returns c = at-false _ (sym (and-not _ (not-true (c .before .before .before .args .ended) (c .if1 .taken)))) refl
 
--- src/steps.rt:145:9
 by-itself-requires : tie.Need-by-itself-requires
 by-itself-requires c κs = search needs
 
--- src/steps.rt:146:9
 returns-2 : tie.Need-returns-2
 unfolding verdictOf
-returns-2 c = at-false _ (sym (and-also (not-false ((c .before .before .before .before .before .args .ended)) ((c .before .before .if1 .left))) (sym (flag ((c .before .by-itself .ensures)) (not-true _ ((c .if2 .taken))))))) refl
+returns-2 c = at-false _ (sym (and-also (not-false (c .before .before .before .before .before .args .ended) (c .before .before .if1 .left)) (sym (flag (c .before .by-itself .ensures) (not-true _ (c .if2 .taken)))))) refl
 
--- src/steps.rt:148:8
 happened-requires : tie.Need-happened-requires
 happened-requires c κs = search needs
 
--- src/steps.rt:149:9
 returns-3 : tie.Need-returns-3
 unfolding verdictOf
-returns-3 c = at-true _ (sym (and-also (not-false ((c .before .before .before .before .before .before .before .args .ended)) ((c .before .before .before .before .if1 .left))) (sym (flag ((c .before .before .before .by-itself .ensures)) (not-false _ ((c .before .before .if2 .left))))))) (at-true _ (flag ((c .before .happened .ensures)) ((c .if3 .taken))) refl)
+returns-3 c = at-true _ (sym (and-also (not-false (c .before .before .before .before .before .before .before .args .ended) (c .before .before .before .before .if1 .left)) (sym (flag (c .before .before .before .by-itself .ensures) (not-false _ (c .before .before .if2 .left)))))) (at-true _ (flag (c .before .happened .ensures) (c .if3 .taken)) refl)
 
--- src/steps.rt:137:1
 returns-4 : tie.Need-returns-4
 unfolding verdictOf
-returns-4 c = at-true _ (sym (and-also (not-false ((c .before .before .before .before .before .before .before .args .ended)) ((c .before .before .before .before .if1 .left))) (sym (flag ((c .before .before .before .by-itself .ensures)) (not-false _ ((c .before .before .if2 .left))))))) (at-false _ (flag ((c .before .happened .ensures)) ((c .if3 .left))) refl)
+returns-4 c = at-true _ (sym (and-also (not-false (c .before .before .before .before .before .before .before .args .ended) (c .before .before .before .before .if1 .left)) (sym (flag (c .before .before .before .by-itself .ensures) (not-false _ (c .before .before .if2 .left)))))) (at-false _ (flag (c .before .happened .ensures) (c .if3 .left)) refl)
 
 pub verdict-spec : {M : Type 1} → statement M
 verdict-spec =

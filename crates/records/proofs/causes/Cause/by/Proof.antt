@@ -1,15 +1,12 @@
-use Rattle.records.proofs.Views.{number-by}
+-- `by` meets its contract. Assumes nothing.
 use borrow.Author.Needs.{needs}
+use Rattle.records.proofs.Views.{number-by}
 use Rattle.records.proofs.causes.Cause.by.Statement.{statement}
 use Rattle.records.proofs.causes.Cause.by.Tie as tie
-use Rattle.records.proofs.causes.Cause.by.Reads as reads
-use Rattle.records.proofs.causes.Cause.by.Lts as lts
 
--- src/causes.rt:35:15
 add-t3 : tie.Need-add-t3
 add-t3 c = search needs
 
--- src/causes.rt:31:5
 returns : tie.Need-returns
 returns c = number-by _
 

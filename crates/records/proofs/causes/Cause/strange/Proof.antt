@@ -1,42 +1,33 @@
-use Rattle.records.specs.Causes.{strangeWhy}
-use Rattle.nodes.specs.Sets.{noNode}
-use Rattle.lemmas.proofs.Cases.{in-arm}
-use mathlib.Core.Path.{_≡_, refl, sym, ap, _∙_}
+-- `strange` meets its contract. Assumes nothing.
+use mathlib.Core.Path.{refl, sym, _∙_}
 use borrow.Author.Needs.{needs}
+use Rattle.lemmas.proofs.Cases.{in-arm}
+use Rattle.nodes.specs.Sets.{noNode}
+use Rattle.records.specs.Causes.{strangeWhy}
 use Rattle.records.proofs.causes.Cause.strange.Statement.{statement}
 use Rattle.records.proofs.causes.Cause.strange.Tie as tie
-use Rattle.records.proofs.causes.Cause.strange.Reads as reads
-use Rattle.records.proofs.causes.Cause.strange.Lts as lts
-use Rattle.records.proofs.causes.Cause.why.Reads as why-reads
 
--- src/causes.rt:66:13
 why-requires : tie.Need-why-requires
 why-requires c κs = search needs
 
--- src/causes.rt:68:25
 enum-told : tie.Need-enum-told
 enum-told c = search needs
 
--- src/causes.rt:69:28
 enum-told-2 : tie.Need-enum-told-2
 enum-told-2 c = search needs
 
--- src/causes.rt:70:21
 enum-known-why : tie.Need-enum-known-why
 enum-known-why c = search needs
 
--- src/causes.rt:63:5
 returns : tie.Need-returns
 returns c = search needs
 
--- src/causes.rt:63:5
 returns-2 : tie.Need-returns-2
 returns-2 c = search needs
 
--- src/causes.rt:63:5
 returns-3 : tie.Need-returns-3
 unfolding noNode
-returns-3 c = in-arm (strangeWhy _) (sym ((c .before .before .before .before .why .ensures)) ∙ (c .before .before .why2 .given .1)) refl
+returns-3 c = in-arm (strangeWhy _) (sym (c .before .before .before .before .why .ensures) ∙ (c .before .before .why2 .given .1)) refl
 
 pub strange-spec : {M : Type 1} → statement M
 strange-spec =
