@@ -62,7 +62,7 @@ module _ (n me : ℕ) (row : List ℕ) where
     deliver-refused m = refused-before (line 13 0 (strangeMessage n m)) (deliver-next m)
 
     -- what isn't refused: few enough nodes, six row numbers, and a record that names nodes
-    pub kept-accepted : checkKeptOf n me row ins s ≡ Accepted → (n ≤ places) × (length row ≡ rowSize) × Fitting s
+    kept-accepted : checkKeptOf n me row ins s ≡ Accepted → (n ≤ places) × (length row ≡ rowSize) × Fitting s
     unfolding strangeKept
     kept-accepted e =
         let p = next-accepted (line 13 0 (strangeKept n s ins)) kept-next e in

@@ -36,7 +36,7 @@ module _ (o : Seen) (s : State) (fit : Fitting s) where
   granted-fits from h true e = move-fits (grant-frees o s from e) (fit .0, h)
   granted-fits from h false e = move-fits (grant-again o s from e) fit
 
-  pub react-fits : (from : ℕ) → from < places → (kind : Kind) → After (react o from s kind)
+  react-fits : (from : ℕ) → from < places → (kind : Kind) → After (react o from s kind)
   react-fits from h Notify = notified-fits from h (called s) refl
   react-fits from h Grant = granted-fits from h _ refl
   react-fits from h Ack = fit
