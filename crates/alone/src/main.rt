@@ -3,6 +3,7 @@ mod lines;
 mod refused;
 mod rounds;
 mod swept;
+mod whole;
 
 fn main() {
     say::text(b"Every message to every record\n");
@@ -12,6 +13,9 @@ fn main() {
     rounds::ahead();
     rounds::strays();
     rounds::openings();
+    say::text(b"\nThe last of 64 nodes\n");
+    whole::called();
+    whole::opened();
     say::text(b"\nRefusals\n");
     refused::counts();
     refused::rows();

@@ -9,7 +9,7 @@ use borrow.Author.Tests.{not-true}
 use Rattle.lemmas.proofs.Tests.{not-both, not-true-false, same-test, and-intro, and-left, and-right}
 use Rattle.lemmas.proofs.Lists.{any-some, some-any}
 use Rattle.nodes.specs.Sets.{bit, In, Inside, has, minus, below, members, setOf}
-use Rattle.nodes.proofs.Bit.{bit-empty, in-or-out, in-with, in-below, in-minus, has-in, in-has, inside-in, inside-member, list-in, in-list, same-list}
+use Rattle.nodes.proofs.Bit.{bit-empty, empty-inside, in-or-out, in-with, in-below, in-minus, has-in, in-has, inside-in, inside-member, list-in, in-list, same-list}
 use Rattle.nodes.proofs.Size.{members-in}
 use Rattle.waits.specs.Waits.{Waits, Lawful}
 use Rattle.waits.specs.Deadlocked.{Reduction, Deadlocked, Reachable, outside, passes}
@@ -59,7 +59,7 @@ module _ (w : Waits) (law : Lawful w) where
   -- ---- a list that passes: no reduction frees a member
   apart : (i : ℕ) (l : List ℕ) → passes w i l ≡ true → (r : List ℕ) → Reduction w r → Inside (setOf r) (outside w l)
   unfolding setOf
-  apart i l e [] r = λ k. omega (arith, bit-empty k)
+  apart i l e [] r = empty-inside (outside w l)
   apart i l e (k ∷ r) red =
       let ih = apart i l e r (red .2) in
       let holds : w .holds k (outside w l) ≡ true = law .monotone k (setOf r) (outside w l) (red .0) ih (red .1) in

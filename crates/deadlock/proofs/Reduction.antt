@@ -7,7 +7,7 @@ use mathlib.Core.List.{List, [], _∷_, List·Memᴰ}
 use Prim.Native.Nat.{ℕ, _<_}
 use native.Mathlib.Omega.{arith}
 use Rattle.nodes.specs.Sets.{bit, In, Inside, with, below, keep, setOf}
-use Rattle.nodes.proofs.Bit.{bit-empty, bit-with-same, in-or-out, in-with, in-below, in-minus, inside-in, inside-member, same-members, keep-grows, list-in, in-list}
+use Rattle.nodes.proofs.Bit.{bit-empty, empty-inside, bit-with-same, in-or-out, in-with, in-below, in-minus, inside-in, inside-member, same-members, keep-grows, list-in, in-list}
 use Rattle.waits.specs.Waits.{Waits, Lawful}
 use Rattle.waits.specs.Deadlocked.{Reduction, Deadlocked}
 use Rattle.deadlock.specs.Sweeps.{freeing, freed, stuck}
@@ -59,7 +59,7 @@ module _ (w : Waits) where
   nobody-built = ([], tt, refl)
 
   nobody-below : Inside 0 (below (w .nodes))
-  nobody-below k = omega (arith, bit-empty k)
+  nobody-below = empty-inside (below (w .nodes))
 
   -- Theorem: one reduction frees them all.
   pub freed-at-once : (l : List ℕ) × Reduction w l × (setOf l ≡ freed w)
@@ -78,7 +78,7 @@ module _ (w : Waits) where
 module _ (w : Waits) (law : Lawful w) where
   pub reduction-inside : (l : List ℕ) → Reduction w l → Inside (setOf l) (freed w)
   unfolding setOf
-  reduction-inside [] r = λ k. omega (arith, bit-empty k)
+  reduction-inside [] r = empty-inside (freed w)
   reduction-inside (k ∷ l) r =
       let ih = reduction-inside l (r .2) in
       inside-in _ _

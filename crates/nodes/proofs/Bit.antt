@@ -207,7 +207,10 @@ in-with s k j = (
     inside-with : In j s → In j (with s k)
     inside-with i = rw (with-union s k) (in-union s (single k) j .1 (inl i))
 
--- no set without k has a member with k alone
+pub with-empty : (k : ℕ) → with 0 k ≡ single k
+with-empty k = same (with 0 k) (single k) (λ j. omega (arith, bit-with 0 k j, bit-empty j))
+
+-- a set without k shares no member with that of k alone
 pub single-apart : (s k j : ℕ) → bit s k ≡ 0 → min (bit s j) (bit (single k) j) ≡ 0
 single-apart s k j z = elim (ℕ-discrete j k) [
   | yes e ↦ let f : bit s j ≡ 0 = ap (bit s) e ∙ z in omega arith
@@ -269,6 +272,23 @@ inside-member a b k h i = omega (arith, h k, bit-le b k)
 
 pub inside-trans : (a b c : ℕ) → Inside a b → Inside b c → Inside a c
 inside-trans a b c f g k = le-trans (f k) (g k)
+
+-- as tests, and with one member more
+pub inside-more : (a b c : ℕ) → inside a b ≡ true → Inside b c → inside a c ≡ true
+inside-more a b c e i = of-inside a c (inside-trans a b c (inside-of a b e) i)
+
+pub single-inside : (s k : ℕ) → Inside (single k) (with s k)
+single-inside s k j = omega (arith, bit-with s k j)
+
+pub with-inside : (s k t : ℕ) → Inside s t → In k t → Inside (with s k) t
+with-inside s k t i m = inside-in (with s k) t (λ j q. ⊎-elim (λ (e : In j s). inside-member s t j i e) (λ (e : j ≡ k). rw e m) (in-with s k j .0 q))
+
+-- the empty set
+pub empty-inside : (s : ℕ) → Inside 0 s
+empty-inside s k = omega (arith, bit-empty k)
+
+pub none-in : (s k : ℕ) → s ≡ 0 → In k s → ⊥
+none-in s k e i = omega (arith, ap (λ (x : ℕ). bit x k) e, bit-empty k)
 
 pub inside-both : (a b : ℕ) → Inside a b → Inside b a → a ≡ b
 inside-both a b f g = same a b (λ k. omega (arith, f k, g k))

@@ -3,6 +3,7 @@ use mathlib.Core.Path.{_≡_, refl, sym, ap, _∙_}
 use Prim.Native.Nat.{ℕ, zero, suc, _+_, _-_}
 use native.Mathlib.Omega.{arith}
 use Rattle.nodes.specs.Sets.{union, with, single}
+use Rattle.nodes.proofs.Bit.{with-empty}
 use Rattle.records.specs.declared.causes.Why.{Why}
 use Rattle.records.specs.declared.causes.Why.the-variants.{Not, By}
 use Rattle.records.specs.declared.messages.Kind.{Kind}
@@ -42,8 +43,7 @@ union-four a b c d e f g = g ∙ ap (union a) (f ∙ ap (union b) e)
 
 -- a set to which one node was added when it had nobody
 pub only-sender : (k : ℕ) {s e : ℕ} → s ≡ with e k → e ≡ 0 → s ≡ single k
-unfolding with union
-only-sender k f e = f ∙ ap (λ (x : ℕ). with x k) e
+only-sender k f e = f ∙ ap (λ (x : ℕ). with x k) e ∙ with-empty k
 
 -- a cause that names a node with a place
 pub fits-by : {why arm : Why} → why ≡ arm → Fits why → Fits arm

@@ -28,6 +28,12 @@ impl Cause {
         }
     }
 
+    pub fn itself() -> Cause
+        ensures { λ r. ⌜ whyOf (r .0) ≡ Why.Itself ⌝ }
+    {
+        Cause(1)
+    }
+
     pub fn by(k: Node) -> Cause
         requires { ⌜ k .0 < places ⌝ }
         ensures { λ r. ⌜ whyOf (r .0) ≡ Why.By k ⌝ }

@@ -1,6 +1,6 @@
 -- The nodes that call and free keep their places in a set through a step. Assumes nothing.
 use mathlib.Core.Path.{_≡_, refl}
-use mathlib.Core.Bool.{Bool, true, false, not, _&&_}
+use mathlib.Core.Bool.{Bool, true, false}
 use Prim.Native.Nat.{ℕ, _<_}
 use Rattle.nodes.specs.Words.{places}
 use Rattle.records.specs.declared.causes.Why.{Why}
@@ -10,7 +10,7 @@ use Rattle.records.specs.declared.messages.Kind.the-variants.{Notify, Grant, Ac
 use Rattle.records.specs.Causes.{Fits}
 use Rattle.records.specs.Records.{State, Fitting, free, called, markOf}
 use Rattle.records.proofs.Fits.{mark-fits, same-fits}
-use Rattle.step.specs.Step.{Seen, Move, active, beCalled, onNotify, onGrant, react}
+use Rattle.step.specs.Step.{Seen, Move, active, beCalled, onNotify, frees, onGrant, react}
 use Rattle.step.proofs.Reacts.{called-waiting, called-active, called-again, notify-again, notify-calls, grant-frees, grant-again}
 
 abbrev After : Move → Type 0
@@ -32,7 +32,7 @@ module _ (o : Seen) (s : State) (fit : Fitting s) where
   notified-fits from h true e = move-fits (notify-again o s from e) fit
   notified-fits from h false e = move-fits (notify-calls o s from e) (called-fits (By (record { 0 = from })) h)
 
-  granted-fits : (from : ℕ) → from < places → (t : Bool) → (not (free s) && o .holds (s .grant)) ≡ t → After (onGrant o from s)
+  granted-fits : (from : ℕ) → from < places → (t : Bool) → frees o s ≡ t → After (onGrant o from s)
   granted-fits from h true e = move-fits (grant-frees o s from e) (fit .0, h)
   granted-fits from h false e = move-fits (grant-again o s from e) fit
 

@@ -5,17 +5,16 @@ use mathlib.Core.Bool.{Bool, true, false, cond, not, _&&_, _||_, true≢false}
 use mathlib.Core.Logic.{⊎-elim}
 use Prim.Native.Nat.{ℕ}
 use native.Mathlib.Nat.{le-refl}
-use native.Mathlib.Omega.{arith}
 use Rattle.lemmas.proofs.Tests.{not-both, and-intro, and-left, and-right, or-intro-right, or-intro-left, or-cases}
-use Rattle.nodes.specs.Sets.{bit, In, Inside, union, minus, single, with, inside}
-use Rattle.nodes.proofs.Bit.{bit-le, bit-empty, bit-with, inside-of, of-inside, inside-trans, inside-in, with-grows, in-with}
+use Rattle.nodes.specs.Sets.{bit, In, Inside, union, minus, with, inside}
+use Rattle.nodes.proofs.Bit.{inside-trans, inside-more, with-grows, single-inside, with-inside, empty-inside, none-in}
 use Rattle.records.specs.declared.causes.Why.{Why}
 use Rattle.records.specs.declared.causes.Why.the-variants.{Not, Itself, By}
 use Rattle.records.specs.declared.messages.Kind.{Kind}
 use Rattle.records.specs.declared.messages.Kind.the-variants.{Notify, Grant, Ack, Done}
 use Rattle.records.specs.Causes.{happened, senderOf}
 use Rattle.records.specs.Records.{State, called, free, withCall, withFreed, hadOf, withHad, markOf}
-use Rattle.step.specs.Step.{Seen, Move, active, acked, complete, nobody, sending, move, answerWith, newly, owed, settle, neighbours}
+use Rattle.step.specs.Step.{Seen, Move, active, acked, complete, nobody, sending, move, answerWith, frees, newly, owed, settle, neighbours}
 use Rattle.step.specs.Sent.{answered, sent, toWhom, Adds, Grows, Sound, Formed}
 use Rattle.step.proofs.Held.{adds-none, adds-all, adds-late, adds-once, adds-held, adds-still}
 
@@ -39,13 +38,10 @@ unfolding complete
 not-complete o s e = ap (λ (b : Bool). b && (inside (o .out) (s .done) && (not (active o) || inside (o .ins) (s .ack)))) e
 
 -- ---- more that is in never undoes what was awaited
-inside-more : (x a b : ℕ) → Inside a b → inside x a ≡ true → inside x b ≡ true
-inside-more x a b i e = of-inside x b (inside-trans x a b (inside-of x a e) i)
-
 acked-more : (o : Seen) (s : State) (a : ℕ) → acked o s ≡ true → acked o (markOf Ack a s) ≡ true
 unfolding acked
 acked-more o s a e =
-    and-intro (free s) _ (and-left (free s) _ e) (inside-more (o .ins) (s .ack) (with (s .ack) a) (with-grows (s .ack) a) (and-right (free s) _ e))
+    and-intro (free s) _ (and-left (free s) _ e) (inside-more (o .ins) (s .ack) (with (s .ack) a) (and-right (free s) _ e) (with-grows (s .ack) a))
 
 complete-more : (o : Seen) (s : State) (ack done : ℕ) → Inside (s .ack) ack → Inside (s .done) done → complete o s ≡ true
     → complete o (withHad Ack ack (withHad Done done s)) ≡ true
@@ -53,25 +49,13 @@ unfolding complete
 complete-more o s ack done i j e =
     let f = and-right (called s) _ e in
     and-intro (called s) _ (and-left (called s) _ e)
-    (and-intro (inside (o .out) done) _ (inside-more (o .out) (s .done) done j (and-left (inside (o .out) (s .done)) _ f))
+    (and-intro (inside (o .out) done) _ (inside-more (o .out) (s .done) done (and-left (inside (o .out) (s .done)) _ f) j)
     (⊎-elim
     (λ (n : not (active o) ≡ true). or-intro-left (not (active o)) _ n)
-    (λ (n : inside (o .ins) (s .ack) ≡ true). or-intro-right (not (active o)) _ (inside-more (o .ins) (s .ack) ack i n))
+    (λ (n : inside (o .ins) (s .ack) ≡ true). or-intro-right (not (active o)) _ (inside-more (o .ins) (s .ack) ack n i))
     (or-cases (not (active o)) _ (and-right (inside (o .out) (s .done)) _ f))))
 
 -- ---- senders
-pub one-inside : (h a : ℕ) → Inside (single a) (with h a)
-one-inside h a k = omega (arith, bit-with h a k)
-
-pub none-inside : (h : ℕ) → Inside 0 h
-none-inside h k = omega (arith, bit-empty k)
-
-nobody-in : (a : ℕ) {n : ℕ} → n ≡ 0 → In a n → ⊥
-nobody-in a e m = let q : bit 0 a ≡ 1 = rw e at m in omega (arith, bit-empty a)
-
-pub more-inside : (h a n : ℕ) → Inside h n → In a n → Inside (with h a) n
-more-inside h a n i m = inside-in (with h a) n (λ j q. ⊎-elim (λ (e : In j h). omega (arith, i j, bit-le n j)) (λ (e : j ≡ a). rw e m) (in-with h a j .0 q))
-
 by-kind : (o : Seen) (s : State) → Inside (s .notify) (o .ins) → Inside (s .grant) (o .out) → Inside (s .ack) (o .ins) → Inside (s .done) (o .out)
     → (k : Kind) → Inside (hadOf k s) (neighbours o k)
 by-kind o s n g a d Notify = n
@@ -112,12 +96,12 @@ module _ (o : Seen) (s : State) (w : Formed o s) where
       unfree = w .unfree;
       if-active = w .if-active;
       if-waiting = w .if-waiting;
-      senders = by-kind o _ (more-inside (s .notify) a (o .ins) (w .senders Notify) m) (w .senders Grant) (w .senders Ack) (w .senders Done);
+      senders = by-kind o _ (with-inside (s .notify) a (o .ins) (w .senders Notify) m) (w .senders Grant) (w .senders Ack) (w .senders Done);
     };
   }
 
   -- ---- GRANT to a node that is free already, or that it doesn't free
-  pub granted-keeps : (a : ℕ) → Sound o → In a (o .out) → bit (s .grant) a ≡ 0 → (not (free s) && o .holds (with (s .grant) a)) ≡ false
+  pub granted-keeps : (a : ℕ) → Sound o → In a (o .out) → bit (s .grant) a ≡ 0 → frees o (markOf Grant a s) ≡ false
       → Keeps o s (answerWith Ack a (markOf Grant a s))
   unfolding settle owed acked complete
   granted-keeps a sound m z n = record {
@@ -133,7 +117,7 @@ module _ (o : Seen) (s : State) (w : Formed o s) where
       unfree = w .unfree;
       if-active = w .if-active;
       if-waiting = λ e. (as-met o sound (free s) (s .grant) a (w .if-waiting e .0) n, w .if-waiting e .1);
-      senders = by-kind o _ (w .senders Notify) (more-inside (s .grant) a (o .out) (w .senders Grant) m) (w .senders Ack) (w .senders Done);
+      senders = by-kind o _ (w .senders Notify) (with-inside (s .grant) a (o .out) (w .senders Grant) m) (w .senders Ack) (w .senders Done);
     };
   }
 
@@ -150,11 +134,11 @@ module _ (o : Seen) (s : State) (w : Formed o s) where
     formed = record {
       caller = w .caller;
       uncalled = w .uncalled;
-      freer = one-inside (s .grant) a;
+      freer = single-inside (s .grant) a;
       unfree = λ e. absurd (true≢false e);
-      if-active = λ e. absurd (nobody-in a (sound .active-out e) m);
+      if-active = λ e. absurd (none-in _ a (sound .active-out e) m);
       if-waiting = λ e. (sym h, refl);
-      senders = by-kind o _ (w .senders Notify) (more-inside (s .grant) a (o .out) (w .senders Grant) m) (w .senders Ack) (w .senders Done);
+      senders = by-kind o _ (w .senders Notify) (with-inside (s .grant) a (o .out) (w .senders Grant) m) (w .senders Ack) (w .senders Done);
     };
   }
 
@@ -174,7 +158,7 @@ module _ (o : Seen) (s : State) (w : Formed o s) where
       unfree = λ e. absurd (not-both f e);
       if-active = w .if-active;
       if-waiting = w .if-waiting;
-      senders = by-kind o _ (w .senders Notify) (w .senders Grant) (more-inside (s .ack) a (o .ins) (w .senders Ack) m) (w .senders Done);
+      senders = by-kind o _ (w .senders Notify) (w .senders Grant) (with-inside (s .ack) a (o .ins) (w .senders Ack) m) (w .senders Done);
     };
   }
 
@@ -194,7 +178,7 @@ module _ (o : Seen) (s : State) (w : Formed o s) where
       unfree = w .unfree;
       if-active = w .if-active;
       if-waiting = w .if-waiting;
-      senders = by-kind o _ (w .senders Notify) (w .senders Grant) (w .senders Ack) (more-inside (s .done) a (o .out) (w .senders Done) m);
+      senders = by-kind o _ (w .senders Notify) (w .senders Grant) (w .senders Ack) (with-inside (s .done) a (o .out) (w .senders Done) m);
     };
   }
 
@@ -220,9 +204,9 @@ module _ (o : Seen) (s : State) (w : Formed o s) where
       };
     }
 
-    pub leaf-keeps : Sound o → active o ≡ true → free s ≡ false → Keeps o s (move (withFreed Itself (withCall by (withHad Notify n s))) (sending Grant (o .ins)))
+    pub active-keeps : Sound o → active o ≡ true → free s ≡ false → Keeps o s (move (withFreed Itself (withCall by (withHad Notify n s))) (sending Grant (o .ins)))
     unfolding settle owed
-    leaf-keeps sound e f = record {
+    active-keeps sound e f = record {
       grows = grown o s (move (withFreed Itself (withCall by (withHad Notify n s))) (sending Grant (o .ins)))
           (rw c (rw b (rw (sound .active-out e) (adds-none 0))))
           (rw f (adds-all (o .ins)))
@@ -231,7 +215,7 @@ module _ (o : Seen) (s : State) (w : Formed o s) where
       formed = record {
         caller = i;
         uncalled = λ g. absurd (not-both b g);
-        freer = none-inside (s .grant);
+        freer = empty-inside (s .grant);
         unfree = λ g. absurd (true≢false g);
         if-active = λ g. (sym b, refl);
         if-waiting = λ g. absurd (not-both e g);

@@ -1,7 +1,7 @@
 -- The local laws: what holds of one node's record through an opening and through any message, whatever the other nodes do.
 -- Assumes nothing.
 use mathlib.Core.Path.{_≡_, refl, sym, ap, ap₂, _∙_, subst}
-use mathlib.Core.Bool.{Bool, true, false, cond, not, _&&_}
+use mathlib.Core.Bool.{Bool, true, false, cond, not}
 use mathlib.Core.Logic.{_⊎_, inl, inr}
 use Prim.Native.Nat.{ℕ, _<_}
 use lib.Dec.{eqb}
@@ -9,7 +9,7 @@ use borrow.Author.Tests.{not-true, not-false}
 use Rattle.lemmas.proofs.Cases.{both-branches}
 use Rattle.lemmas.proofs.Tests.{true-or-false, and-left, and-right, or-left-false, or-right-false}
 use Rattle.nodes.specs.Sets.{bit, In, Inside, has, with}
-use Rattle.nodes.proofs.Bit.{has-in, has-out}
+use Rattle.nodes.proofs.Bit.{has-in, has-out, single-inside, with-inside, empty-inside}
 use Rattle.records.specs.declared.causes.Why.the-variants.{Itself, By}
 use Rattle.records.specs.declared.messages.Kind.{Kind}
 use Rattle.records.specs.declared.messages.Kind.the-variants.{Notify, Grant, Ack, Done}
@@ -19,11 +19,11 @@ use Rattle.records.specs.Rounds.{behind, ahead}
 use Rattle.waits.specs.Waits.{Waits, Lawful}
 use Rattle.step.specs.declared.answers.Answer.{Answer}
 use Rattle.step.specs.declared.answers.Answer.the-variants.{Old, Stray, Repeat}
-use Rattle.step.specs.Step.{Seen, Move, Outcome, still, seenIn, active, beCalled, react, settle, openRound, neighbours, expects, stray, take, arrive, receive}
+use Rattle.step.specs.Step.{Seen, Move, Outcome, still, seenIn, active, beCalled, frees, react, settle, openRound, neighbours, expects, stray, take, arrive, receive}
 use Rattle.step.specs.Sent.{Grows, Sound, Formed, Fresh}
 use Rattle.step.proofs.Held.{adds-held, adds-still}
 use Rattle.step.proofs.Reacts.{called-waiting, called-active, notify-again, notify-calls, grant-frees, grant-again}
-use Rattle.step.proofs.Keeps.{Keeps, not-happened, one-inside, none-inside, more-inside, notified-keeps, granted-keeps, freed-keeps, acked-keeps, done-keeps, called-keeps, leaf-keeps}
+use Rattle.step.proofs.Keeps.{Keeps, not-happened, notified-keeps, granted-keeps, freed-keeps, acked-keeps, done-keeps, called-keeps, active-keeps}
 
 -- a node of a lawful graph of waits
 pub seen-sound : (w : Waits) → Lawful w → (i : ℕ) → i < w .nodes → Sound (seenIn w i)
@@ -36,9 +36,9 @@ module _ (o : Seen) (sound : Sound o) where
   -- a blank record can come about
   pub blank-formed : (round : ℕ) → Formed o (blankOf round)
   blank-formed round = record {
-    caller = none-inside 0;
+    caller = empty-inside 0;
     uncalled = λ e. (refl, refl);
-    freer = none-inside 0;
+    freer = empty-inside 0;
     unfree = λ e. refl;
     if-active = λ e. (refl, refl);
     if-waiting = λ e. (sym e, refl);
@@ -46,18 +46,18 @@ module _ (o : Seen) (sound : Sound o) where
   }
     where
       nobody-had : (k : Kind) → Inside (hadOf k (blankOf round)) (neighbours o k)
-      nobody-had Notify = none-inside (o .ins)
-      nobody-had Grant = none-inside (o .out)
-      nobody-had Ack = none-inside (o .ins)
-      nobody-had Done = none-inside (o .out)
+      nobody-had Notify = empty-inside (o .ins)
+      nobody-had Grant = empty-inside (o .out)
+      nobody-had Ack = empty-inside (o .ins)
+      nobody-had Done = empty-inside (o .out)
 
   opens-keep : (round : ℕ) (b : Bool) → active o ≡ b → Keeps o (blankOf round) (beCalled o Itself (blankOf round))
   opens-keep round false e =
       moves-as (called-waiting o (blankOf round) Itself e)
-      (called-keeps o (blankOf round) (blank-formed round) Itself 0 refl refl (none-inside 0) (none-inside (o .ins)) (λ r. adds-still 0 r) e)
+      (called-keeps o (blankOf round) (blank-formed round) Itself 0 refl refl (empty-inside 0) (empty-inside (o .ins)) (λ r. adds-still 0 r) e)
   opens-keep round true e =
       moves-as (called-active o (blankOf round) Itself e refl)
-      (leaf-keeps o (blankOf round) (blank-formed round) Itself 0 refl refl (none-inside 0) (none-inside (o .ins)) (λ r. adds-still 0 r) sound e refl)
+      (active-keeps o (blankOf round) (blank-formed round) Itself 0 refl refl (empty-inside 0) (empty-inside (o .ins)) (λ r. adds-still 0 r) sound e refl)
 
   module _ (s : State) (w : Formed o s) where
     -- the first NOTIFY
@@ -65,19 +65,19 @@ module _ (o : Seen) (sound : Sound o) where
         → Keeps o s (beCalled o (By (record { 0 = a })) (markOf Notify a s))
     first-keeps a m z c false e =
         moves-as (called-waiting o (markOf Notify a s) (By (record { 0 = a })) e)
-        (called-keeps o s w (By (record { 0 = a })) (with (s .notify) a) c refl (one-inside (s .notify) a)
-        (more-inside (s .notify) a (o .ins) (w .senders Notify) m) (λ r. rw (not-happened (s .call) c) (adds-held (s .notify) a z r)) e)
+        (called-keeps o s w (By (record { 0 = a })) (with (s .notify) a) c refl (single-inside (s .notify) a)
+        (with-inside (s .notify) a (o .ins) (w .senders Notify) m) (λ r. rw (not-happened (s .call) c) (adds-held (s .notify) a z r)) e)
     first-keeps a m z c true e =
         let f : free s ≡ false = w .if-active e .0 ∙ c in
         moves-as (called-active o (markOf Notify a s) (By (record { 0 = a })) e f)
-        (leaf-keeps o s w (By (record { 0 = a })) (with (s .notify) a) c refl (one-inside (s .notify) a)
-        (more-inside (s .notify) a (o .ins) (w .senders Notify) m) (λ r. rw (not-happened (s .call) c) (adds-held (s .notify) a z r)) sound e f)
+        (active-keeps o s w (By (record { 0 = a })) (with (s .notify) a) c refl (single-inside (s .notify) a)
+        (with-inside (s .notify) a (o .ins) (w .senders Notify) m) (λ r. rw (not-happened (s .call) c) (adds-held (s .notify) a z r)) sound e f)
 
     notify-keeps : (a : ℕ) → In a (o .ins) → bit (s .notify) a ≡ 0 → (b : Bool) → called s ≡ b → Keeps o s (react o a (markOf Notify a s) Notify)
     notify-keeps a m z true c = moves-as (notify-again o (markOf Notify a s) a c) (notified-keeps o s w a m z c)
     notify-keeps a m z false c = moves-as (notify-calls o (markOf Notify a s) a c) (first-keeps a m z c (active o) refl)
 
-    grant-keeps : (a : ℕ) → In a (o .out) → bit (s .grant) a ≡ 0 → (b : Bool) → (not (free s) && o .holds (with (s .grant) a)) ≡ b
+    grant-keeps : (a : ℕ) → In a (o .out) → bit (s .grant) a ≡ 0 → (b : Bool) → frees o (markOf Grant a s) ≡ b
         → Keeps o s (react o a (markOf Grant a s) Grant)
     grant-keeps a m z true t =
         moves-as (grant-frees o (markOf Grant a s) a t)

@@ -1,12 +1,12 @@
 -- What a node does with a message, case by case. Assumes nothing.
 use mathlib.Core.Path.{_≡_, ap, ap₂}
-use mathlib.Core.Bool.{Bool, true, false, cond, not, _&&_}
+use mathlib.Core.Bool.{Bool, true, false, cond, not}
 use Prim.Native.Nat.{ℕ}
 use Rattle.records.specs.declared.causes.Why.{Why}
 use Rattle.records.specs.declared.causes.Why.the-variants.{Itself, By}
 use Rattle.records.specs.declared.messages.Kind.the-variants.{Notify, Grant, Ack, Done}
 use Rattle.records.specs.Records.{State, called, free, withCall, withFreed}
-use Rattle.step.specs.Step.{Seen, active, nobody, sending, move, becomeFree, beCalled, answerWith, onNotify, onGrant}
+use Rattle.step.specs.Step.{Seen, active, nobody, sending, move, becomeFree, beCalled, answerWith, onNotify, frees, onGrant}
 
 module _ (o : Seen) (s : State) where
   pub called-waiting : (by : Why) → active o ≡ false → beCalled o by s ≡ move (withCall by s) (sending Notify (o .out))
@@ -32,10 +32,10 @@ module _ (o : Seen) (s : State) where
   unfolding onNotify
   notify-calls a e = ap (λ (b : Bool). cond b (answerWith Done a s) (beCalled o (By (record { 0 = a })) s)) e
 
-  pub grant-frees : (a : ℕ) → (not (free s) && o .holds (s .grant)) ≡ true → onGrant o a s ≡ move (withFreed (By (record { 0 = a })) s) (sending Grant (o .ins))
+  pub grant-frees : (a : ℕ) → frees o s ≡ true → onGrant o a s ≡ move (withFreed (By (record { 0 = a })) s) (sending Grant (o .ins))
   unfolding onGrant becomeFree
   grant-frees a e = ap (λ (b : Bool). cond b (becomeFree o (By (record { 0 = a })) s) (answerWith Ack a s)) e
 
-  pub grant-again : (a : ℕ) → (not (free s) && o .holds (s .grant)) ≡ false → onGrant o a s ≡ answerWith Ack a s
+  pub grant-again : (a : ℕ) → frees o s ≡ false → onGrant o a s ≡ answerWith Ack a s
   unfolding onGrant
   grant-again a e = ap (λ (b : Bool). cond b (becomeFree o (By (record { 0 = a })) s) (answerWith Ack a s)) e

@@ -89,10 +89,14 @@ answerWith kind to s = move s (sending kind (single to))
 unfoldable pub onNotify : Seen → ℕ → State → Move
 onNotify o from s = cond (called s) (answerWith Done from s) (beCalled o (By (record { 0 = from })) s)
 
--- GRANT frees a node that wasn't free and whose condition holds, its sender being marked. The sender is then the freer, whose
--- ACK is held back; in every other case it gets ACK at once.
+-- the node wasn't free, and its condition holds with those whose GRANT was had
+abbrev pub frees : Seen → State → Bool
+frees o s = not (free s) && o .holds (s .grant)
+
+-- GRANT frees a node once its condition holds. Its sender is then the freer, whose ACK is held back; in every other case it gets
+-- ACK at once.
 unfoldable pub onGrant : Seen → ℕ → State → Move
-onGrant o from s = cond (not (free s) && o .holds (s .grant)) (becomeFree o (By (record { 0 = from })) s) (answerWith Ack from s)
+onGrant o from s = cond (frees o s) (becomeFree o (By (record { 0 = from })) s) (answerWith Ack from s)
 
 -- what a message does whose sender is marked already
 abbrev pub react : Seen → ℕ → State → Kind → Move

@@ -34,7 +34,7 @@ pub fn open_round(own: Own, round: Round) -> Stepped
     ensures { λ s. ⌜ outcomeOf s ≡ openRound (seenOf own) (round .0) ⌝ }
 {
     let before = blank(round);
-    let did = be_called(own, Cause(1), before);
+    let did = be_called(own, Cause::itself(), before);
     let end = settle(own, before, did);
     let state = end.state;
     let sends = end.sends;

@@ -1,11 +1,11 @@
 // What a node does when it is called, becomes free, or takes a message.
 ghost use mathlib.Core.Path.{_≡_};
-ghost use mathlib.Core.Bool.{not, _&&_};
 ghost use Prim.Native.Nat.{_<_};
-ghost use Rattle.nodes.specs.Words.{num, places};
+ghost use Rattle.nodes.specs.Words.{places};
 ghost use Rattle.records.specs.Causes.{whyOf};
-ghost use Rattle.records.specs.Records.{stateOf, free, Fitting};
-ghost use Rattle.step.specs.Step.{becomeFree, beCalled, onNotify, onGrant, react as react-of, answerWith, settle as settle-of, verdictOf};
+ghost use Rattle.records.specs.Records.{stateOf, Fitting};
+ghost use Rattle.step.specs.Step.{becomeFree, beCalled, answerWith, onNotify, frees as frees-of, onGrant};
+ghost use Rattle.step.specs.Step.{react as react-of, verdictOf, settle as settle-of};
 ghost use Rattle.step.specs.Views.{seenOf, moveOf, endOf};
 use crate::answers::Verdict;
 use crate::awaited::Own;
@@ -66,7 +66,7 @@ pub fn be_called(own: Own, by: Cause, r: Record) -> Did
             sends: nobody(),
         };
     }
-    become_free(own, Cause(1), called)
+    become_free(own, Cause::itself(), called)
 }
 
 // An answer that goes at once.
@@ -93,7 +93,7 @@ fn on_notify(own: Own, from: Node, r: Record) -> Did
 
 // Whether a node that wasn't free has its condition met.
 fn frees(own: Own, r: Record) -> bool
-    ensures { λ b. ⌜ b ≡ (not (free (stateOf r)) && seenOf own .holds (num (r .grant))) ⌝ }
+    ensures { λ b. ⌜ b ≡ frees-of (seenOf own) (stateOf r) ⌝ }
 {
     let row = own.row;
     let freed = r.freed;

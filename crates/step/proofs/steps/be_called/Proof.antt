@@ -5,7 +5,7 @@ use borrow.Author.Needs.{needs}
 use Rattle.lemmas.proofs.Cases.{at-true, at-false, flag}
 use Rattle.records.specs.declared.messages.Kind.the-variants.{Notify}
 use Rattle.step.specs.Step.{move, beCalled}
-use Rattle.step.proofs.Said.{sends-to}
+use Rattle.step.proofs.Said.{sends-to, freed-by}
 use Rattle.step.proofs.steps.be_called.Statement.{statement}
 use Rattle.step.proofs.steps.be_called.Tie as tie
 
@@ -32,12 +32,15 @@ returns-2 : tie.Need-returns-2
 unfolding beCalled
 returns-2 c = at-false _ (flag (ap not (c .before .before .before .before .active .ensures)) (c .before .before .before .if1 .left)) (at-true _ (flag (c .before .before .happened .ensures) (c .before .if2 .taken)) (ap (move _) (c .nobody .ensures)))
 
+itself-requires : tie.Need-itself-requires
+itself-requires c κs = search needs
+
 become-free-requires : tie.Need-become-free-requires
 become-free-requires c κs = search needs
 
 returns-3 : tie.Need-returns-3
 unfolding beCalled
-returns-3 c = at-false _ (flag (ap not (c .before .before .before .before .active .ensures)) (c .before .before .before .if1 .left)) (at-false _ (flag (c .before .before .happened .ensures) (c .before .if2 .left)) (c .become-free .ensures))
+returns-3 c = at-false _ (flag (ap not (c .before .before .before .before .before .active .ensures)) (c .before .before .before .before .if1 .left)) (at-false _ (flag (c .before .before .before .happened .ensures) (c .before .before .if2 .left)) (freed-by _ _ (c .become-free .ensures) (c .before .itself .ensures)))
 
 pub be-called-spec : {M : Type 1} → statement M
 be-called-spec =
@@ -50,5 +53,6 @@ be-called-spec =
     happened-requires
     nobody-requires
     returns-2
+    itself-requires
     become-free-requires
     returns-3)
