@@ -33,8 +33,14 @@ ownLines n me row = line 1 0 (wrongOwn n (length row)) ∷ line 9 0 (noNode n me
 abbrev pub keptLines : ℕ → ℕ → List ℕ → ℕ → State → List Line
 keptLines n me row ins s = ownLines n me row ++ line 13 0 (strangeKept n s ins) ∷ []
 
--- what the checks answer: of the node and its row; of what it keeps too; of an opening, 10 last; of a delivery, 13 of the
--- message last
+-- then 10 for an opening, and 13 of the message for a delivery
+abbrev pub openLines : ℕ → ℕ → List ℕ → ℕ → State → ℕ → List Line
+openLines n me row ins s round = keptLines n me row ins s ++ line 10 0 (cannotOpen (s .round) round) ∷ []
+
+abbrev pub deliverLines : ℕ → ℕ → List ℕ → ℕ → State → Message → List Line
+deliverLines n me row ins s m = keptLines n me row ins s ++ line 13 0 (strangeMessage n m) ∷ []
+
+-- what the checks answer: of the node and its row; of what it keeps too; of an opening; of a delivery
 unfoldable pub checkOwnOf : ℕ → ℕ → List ℕ → Checked
 checkOwnOf n me row = firstSaid (ownLines n me row)
 
@@ -42,7 +48,7 @@ unfoldable pub checkKeptOf : ℕ → ℕ → List ℕ → ℕ → State → Chec
 checkKeptOf n me row ins s = firstSaid (keptLines n me row ins s)
 
 unfoldable pub checkOpenOf : ℕ → ℕ → List ℕ → ℕ → State → ℕ → Checked
-checkOpenOf n me row ins s round = firstSaid (keptLines n me row ins s ++ line 10 0 (cannotOpen (s .round) round) ∷ [])
+checkOpenOf n me row ins s round = firstSaid (openLines n me row ins s round)
 
 unfoldable pub checkDeliverOf : ℕ → ℕ → List ℕ → ℕ → State → Message → Checked
-checkDeliverOf n me row ins s m = firstSaid (keptLines n me row ins s ++ line 13 0 (strangeMessage n m) ∷ [])
+checkDeliverOf n me row ins s m = firstSaid (deliverLines n me row ins s m)

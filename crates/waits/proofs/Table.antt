@@ -83,9 +83,12 @@ gives-said ls r g =
     ∙ ap (λ (b : Bool). cond b (Refused (g .this .gives)) (firstSaid (g .rest))) (g .speaks)
     ∙ ap Refused (g .refusal)
 
+pub refused-iff : (ls : List Line) (r : Refusal) → (firstSaid ls ≡ Refused r) ↔ Gives ls r
+refused-iff ls r = (said-gives ls r, gives-said ls r)
+
 pub check-refused : (n : ℕ) (rows : List ℕ) (r : Refusal) → (checkOf n rows ≡ Refused r) ↔ Gives (graphLines n rows) r
 unfolding checkOf
-check-refused n rows r = (said-gives (graphLines n rows) r, gives-said (graphLines n rows) r)
+check-refused n rows r = refused-iff (graphLines n rows) r
 
 -- ---- a row that gets no number
 pub record Fine (n k : ℕ) (r : Row) : Type 0 where
