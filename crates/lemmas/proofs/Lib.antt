@@ -2,3 +2,4 @@
 pub mod Cases
 pub mod Tests
 pub mod Lists
+pub mod Stores

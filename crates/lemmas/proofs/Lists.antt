@@ -1,17 +1,18 @@
 -- Lists of numbers: a test of some member, and order. Assumes nothing.
 use mathlib.Core.Path.{_≡_, refl, sym, ap, ap₂, _∙_}
 use mathlib.Core.Bool.{Bool, true, false, _||_, false≢true}
-use mathlib.Core.Logic.{⊎-elim, _↔_}
-use mathlib.Core.List.{List, [], _∷_, _++_, List·Memᴰ, List·Memᴰ·append-cases, List·Memᴰ·eq-of-singleton}
+use mathlib.Core.Logic.{_⊎_, inl, inr, ⊎-elim, _↔_}
+use mathlib.Core.List.{List, [], _∷_, _++_, map, List·Memᴰ, List·Memᴰ·append-cases, List·Memᴰ·eq-of-singleton}
 use mathlib.Core.List.List·Memᴰ.{List·Memᴰ·head as here, List·Memᴰ·tail as there}
 use Prim.Native.Nat.{ℕ, zero, suc, _+_, _≤_, _<_}
 use native.Mathlib.Nat.{not-suc-le-zero, le-of-suc-le-suc}
 use native.Mathlib.Numerals.{add-one}
+use native.Mathlib.Decide.{decLt}
 use native.Mathlib.Omega.{arith}
 use lib.ListN.{length, getD, drop, drop-of-length-le}
 use lib.Seq.{drop-cons}
-use Rattle.lemmas.specs.Lists.{anyOf, Ascending}
-use Rattle.lemmas.proofs.Tests.{or-left-false, or-right-false, or-cases, or-intro-left, or-intro-right}
+use Rattle.lemmas.specs.Lists.{anyOf, anyBelow, Ascending}
+use Rattle.lemmas.proofs.Tests.{not-both, or-left-false, or-right-false, or-cases, or-intro-left, or-intro-right}
 
 -- ---- a test of some member
 pub any-some : (p : ℕ → Bool) (l : List ℕ) → anyOf p l ≡ true → (x : ℕ) × List·Memᴰ x l × (p x ≡ true)
@@ -33,6 +34,19 @@ none-at p [] at h e = absurd (not-suc-le-zero h)
 none-at p (a ∷ l) zero h e = or-left-false (p a) (anyOf p l) e
 none-at p (a ∷ l) (suc at) h e = none-at p l at (le-of-suc-le-suc h) (or-right-false (p a) (anyOf p l) e)
 
+pub any-append : (p : ℕ → Bool) (l m : List ℕ) → anyOf p l ≡ false → anyOf p m ≡ false → anyOf p (l ++ m) ≡ false
+any-append p [] m e f = f
+any-append p (a ∷ l) m e f = ap₂ _||_ (or-left-false (p a) (anyOf p l) e) (any-append p l m (or-right-false (p a) (anyOf p l) e) f)
+
+pub any-map : {A : Type 0} (p : ℕ → Bool) (f : A → ℕ) (l : List A) → ((x : A) → List·Memᴰ x l → p (f x) ≡ false) → anyOf p (map f l) ≡ false
+any-map p f [] h = refl
+any-map p f (a ∷ l) h = ap₂ _||_ (h a (here refl)) (any-map p f l (λ x m. h x (there m)))
+
+-- what fails a test fails one that is met less often
+pub any-weaker : (p q : ℕ → Bool) (l : List ℕ) → ((x : ℕ) → p x ≡ false → q x ≡ false) → anyOf p l ≡ false → anyOf q l ≡ false
+any-weaker p q [] h e = refl
+any-weaker p q (a ∷ l) h e = ap₂ _||_ (h a (or-left-false (p a) (anyOf p l) e)) (any-weaker p q l h (or-right-false (p a) (anyOf p l) e))
+
 -- ---- a walk that tests one number after another: the answer is that of the numbers from a place on
 abbrev pub AnyLeft : (ℕ → Bool) → List ℕ → ℕ → Type 0
 AnyLeft p l at = anyOf p l ≡ anyOf p (drop at l)
@@ -49,6 +63,32 @@ module _ (p : ℕ → Bool) (l : List ℕ) (at : ℕ) (left : AnyLeft p l at) wh
 
   pub any-ended : length l ≤ at → false ≡ anyOf p l
   any-ended h = sym (left ∙ ap (anyOf p) (drop-of-length-le l h))
+
+-- ---- a test of some number below n
+pub none-below : (p : ℕ → Bool) (n i : ℕ) → i < n → anyBelow p n ≡ false → p i ≡ false
+none-below p zero i h e = absurd (not-suc-le-zero h)
+none-below p (suc n) i h e =
+    ⊎-elim
+    (λ (l : i < n). none-below p n i l (or-left-false (anyBelow p n) (p n) e))
+    (λ (q : i ≡ n). rw q (or-right-false (anyBelow p n) (p n) e))
+    (lt-or-same i n h)
+  where
+    lt-or-same : (i n : ℕ) → i < suc n → (i < n) ⊎ (i ≡ n)
+    lt-or-same i n h = elim (decLt i n) [ yes l ↦ inl l | no l ↦ inr (omega arith) ]
+
+pub below-next : (p : ℕ → Bool) (n : ℕ) → anyBelow p n ≡ false → p n ≡ false → anyBelow p (n + 1) ≡ false
+below-next p n e f = rw (add-one n) (ap₂ _||_ e f)
+
+pub all-below : (p : ℕ → Bool) (n : ℕ) → ((i : ℕ) → i < n → p i ≡ false) → anyBelow p n ≡ false
+all-below p zero h = refl
+all-below p (suc n) h = ap₂ _||_ (all-below p n (λ i l. h i (omega arith))) (h n (omega arith))
+
+pub some-below : (p : ℕ → Bool) (n i : ℕ) → i < n → p i ≡ true → true ≡ anyBelow p n
+some-below p n i h e = sym (not-false-true (anyBelow p n) (λ f. not-both e (none-below p n i h f)))
+  where
+    not-false-true : (b : Bool) → (b ≡ false → ⊥) → b ≡ true
+    not-false-true true f = refl
+    not-false-true false f = absurd (f refl)
 
 -- ---- order
 

@@ -1,6 +1,7 @@
-// What is said of every claim of a graph.
+// What is said of every claim of a graph, and what a round from it comes to.
 use crate::lines::bytes;
 use crate::lines::checked;
+use crate::rounds::round;
 use deadlock::Claim;
 use deadlock::Found;
 use deadlock::Report;
@@ -54,6 +55,7 @@ pub fn asked(nodes: usize, rows: &[u64], k: usize) {
     ring(nodes, rows, k);
     text(b", evidence");
     evidence(nodes, rows, k);
+    round(nodes, rows, k);
     text(b"\n");
 }
 

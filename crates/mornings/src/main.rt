@@ -1,4 +1,4 @@
-// What is said of the claims of the paper's mornings, of lists that are offered, and of bad input of every kind.
+// The paper's mornings: their claims, their rounds and their runs; lists that are offered, and bad input of every kind.
 mod claims;
 mod graphs;
 mod lines;
@@ -6,6 +6,8 @@ mod lists;
 mod mornings;
 mod questions;
 mod refusals;
+mod rounds;
+mod runs;
 
 fn main() {
     say::text(b"The mornings\n");
@@ -23,4 +25,7 @@ fn main() {
     refusals::counts();
     refusals::rows();
     refusals::order();
+    say::text(b"\nRuns\n");
+    runs::two_nodes();
+    runs::rounds();
 }

@@ -13,6 +13,7 @@ use Rattle.lemmas.proofs.Tests.{or-left-false, or-right-false}
 use Rattle.nodes.specs.Sets.{noNode}
 use Rattle.nodes.specs.Words.{places}
 use Rattle.records.specs.declared.messages.Message.{Message}
+use Rattle.records.specs.Rounds.{cannotOpen}
 use Rattle.records.specs.Messages.{kinds, strangeMessage}
 use Rattle.records.specs.Records.{State, Fitting, strangeRecord}
 use Rattle.records.proofs.Fits.{record-fits}
@@ -25,7 +26,7 @@ use Rattle.waits.specs.Numbers.{line, strangeCount, checkRowOf, Gives}
 use Rattle.waits.proofs.Cases.{count-fits}
 use Rattle.waits.proofs.Table.{accepted-silent, refused-iff}
 use Rattle.waits.proofs.Next.{Next, next, refused-before, next-accepted}
-use Rattle.node.specs.Refusals.{wrongOwn, strangeKept, cannotOpen, ownLines, keptLines, openLines, deliverLines, checkOwnOf, checkKeptOf, checkOpenOf, checkDeliverOf}
+use Rattle.node.specs.Refusals.{wrongOwn, strangeKept, ownLines, keptLines, openLines, deliverLines, checkOwnOf, checkKeptOf, checkOpenOf, checkDeliverOf}
 
 -- what a right count says
 pub right-own : (n numbers : ℕ) → wrongOwn n numbers ≡ false → (n ≤ places) × (numbers ≡ rowSize)

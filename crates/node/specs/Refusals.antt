@@ -6,7 +6,7 @@ use lib.Dec.{eqb}
 use lib.ListN.{length}
 use Rattle.nodes.specs.Sets.{noNode}
 use Rattle.records.specs.declared.messages.Message.{Message}
-use Rattle.records.specs.Rounds.{ahead, noRound}
+use Rattle.records.specs.Rounds.{cannotOpen}
 use Rattle.records.specs.Messages.{strangeMessage}
 use Rattle.records.specs.Records.{State, strangeSet, strangeRecord}
 use Rattle.waits.specs.declared.numbers.Checked.{Checked}
@@ -20,10 +20,6 @@ wrongOwn n numbers = strangeCount n || not (eqb numbers rowSize)
 -- 13, of what a controller keeps: its record or its IN names something that doesn't exist
 unfoldable pub strangeKept : ℕ → State → ℕ → Bool
 strangeKept n s ins = strangeRecord n s || strangeSet n ins
-
--- 10, of one node: no such round, or not above the record's
-unfoldable pub cannotOpen : ℕ → ℕ → Bool
-cannotOpen own round = noRound round || not (ahead round own)
 
 -- 1, then 9 for the node's own number, then its row's 2 to 7
 abbrev pub ownLines : ℕ → ℕ → List ℕ → List Line

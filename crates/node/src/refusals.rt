@@ -3,14 +3,13 @@ ghost use mathlib.Core.Path.{_≡_};
 ghost use Prim.Native.Nat.{_≤_};
 ghost use Rattle.nodes.specs.Words.{num, places};
 ghost use Rattle.records.specs.Records.{stateOf};
-ghost use Rattle.node.specs.Refusals.{wrongOwn, strangeKept, cannotOpen, checkOwnOf, checkKeptOf, checkOpenOf, checkDeliverOf};
+ghost use Rattle.node.specs.Refusals.{wrongOwn, strangeKept, checkOwnOf, checkKeptOf, checkOpenOf, checkDeliverOf};
 use nodes::Node;
 use nodes::Round;
 use nodes::Set;
 use records::Message;
 use records::Record;
-use records::ahead;
-use records::no_round;
+use records::cannot_open;
 use records::strange_message;
 use records::strange_record;
 use records::strange_set;
@@ -67,16 +66,6 @@ fn check_kept(nodes: usize, me: Node, row: &[u64], ins: Set, kept: Record) -> Ch
         return refused(13, Node(0));
     }
     Checked::Accepted
-}
-
-// Number 10: no such round, or not above the record's.
-fn cannot_open(own: Round, round: Round) -> bool
-    ensures { λ r. ⌜ r ≡ cannotOpen (own .0) (round .0) ⌝ }
-{
-    if no_round(round) {
-        return true;
-    }
-    !ahead(round, own)
 }
 
 // An opening: the same, then 10.

@@ -284,6 +284,21 @@ pub with-inside : (s k t : ℕ) → Inside s t → In k t → Inside (with s k) 
 with-inside s k t i m = inside-in (with s k) t (λ j q. ⊎-elim (λ (e : In j s). inside-member s t j i e) (λ (e : j ≡ k). rw e m) (in-with s k j .0 q))
 
 -- the empty set
+pub single-below : (n k : ℕ) → k < n → Inside (single k) (below n)
+single-below n k h = inside-in (single k) (below n) (λ j i. in-below n j .1 (rw (single-only k j i) h))
+  where
+    single-only : (k j : ℕ) → In j (single k) → j ≡ k
+    single-only k j i = elim (ℕ-discrete j k) [ yes e ↦ e | no d ↦ absurd (let z = bit-single-other k j d in omega arith) ]
+
+pub union-left : (a b : ℕ) → Inside a (union a b)
+union-left a b k = omega (arith, bit-union a b k)
+
+pub union-right : (a b : ℕ) → Inside b (union a b)
+union-right a b k = omega (arith, bit-union a b k)
+
+pub inside-union : (a b c : ℕ) → Inside a c → Inside b c → Inside (union a b) c
+inside-union a b c i j k = omega (arith, bit-union a b k, i k, j k)
+
 pub empty-inside : (s : ℕ) → Inside 0 s
 empty-inside s k = omega (arith, bit-empty k)
 

@@ -3,3 +3,4 @@ pub mod Bit
 pub mod Size
 pub mod Walk
 pub mod Words
+pub mod First

@@ -2,3 +2,5 @@
 pub mod Views
 pub mod Fits
 pub mod Unique
+pub mod Higher
+pub mod Among

@@ -2,24 +2,17 @@
 use mathlib.Core.Path.{_≡_, refl, sym, ap, _∙_}
 use Prim.Native.Nat.{ℕ, zero, suc}
 use Rattle.nodes.proofs.Words.{same-set}
-use Rattle.records.specs.declared.causes.Why.{Why}
-use Rattle.records.specs.declared.causes.Why.the-variants.{Not, Itself, By}
 use Rattle.records.specs.declared.records.Record.{Record}
-use Rattle.records.specs.Causes.{whyOf}
+use Rattle.records.specs.Causes.{whyOf, causeNumber}
 use Rattle.records.specs.Records.{State, stateOf}
 
-abbrev number : Why → ℕ
-number Not = 0
-number Itself = 1
-number (By k) = suc (suc (k .0))
-
-numbered : (n : ℕ) → number (whyOf n) ≡ n
+pub numbered : (n : ℕ) → causeNumber (whyOf n) ≡ n
 numbered zero = refl
 numbered (suc zero) = refl
 numbered (suc (suc k)) = refl
 
 same-cause : (a b : ℕ) → whyOf a ≡ whyOf b → a ≡ b
-same-cause a b e = sym (numbered a) ∙ ap number e ∙ numbered b
+same-cause a b e = sym (numbered a) ∙ ap causeNumber e ∙ numbered b
 
 pub same-record : (r s : Record) → stateOf r ≡ stateOf s → r ≡ s
 same-record r s e =

@@ -12,6 +12,12 @@ whyOf zero = Not
 whyOf (suc zero) = Itself
 whyOf (suc (suc k)) = By (record { 0 = k })
 
+-- and back
+abbrev pub causeNumber : Why → ℕ
+causeNumber Not = 0
+causeNumber Itself = 1
+causeNumber (By k) = suc (suc (k .0))
+
 abbrev pub happened : Why → Bool
 happened Not = false
 happened Itself = true

@@ -1,5 +1,5 @@
 -- Rounds: which there are, and how two of them are compared. Assumes nothing.
-use mathlib.Core.Bool.{Bool, true, false, cond, _||_}
+use mathlib.Core.Bool.{Bool, true, false, cond, not, _||_}
 use Prim.Native.Nat.{ℕ}
 use lib.Dec.{ltb, eqb}
 use Rattle.records.specs.declared.rounds.Compared.{Compared}
@@ -32,3 +32,7 @@ ahead round own = isAhead (compareOf round own)
 -- no round has this number
 unfoldable pub noRound : ℕ → Bool
 noRound round = eqb round 0 || ltb lastRound round
+
+-- 10: no such round, or not above the highest so far, which is a record's own round or that of a whole bench
+unfoldable pub cannotOpen : ℕ → ℕ → Bool
+cannotOpen own round = noRound round || not (ahead round own)

@@ -17,6 +17,8 @@ pub use records::in_round;
 pub use records::mark;
 pub use records::strange_record;
 pub use records::strange_set;
+pub use rounds::LAST;
 pub use rounds::ahead;
 pub use rounds::behind;
+pub use rounds::cannot_open;
 pub use rounds::no_round;

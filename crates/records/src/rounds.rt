@@ -1,6 +1,6 @@
 // Rounds: which there are, and the one place where two of them are compared.
 ghost use mathlib.Core.Path.{_≡_};
-ghost use Rattle.records.specs.Rounds.{compareOf, noRound};
+ghost use Rattle.records.specs.Rounds.{compareOf, noRound, cannotOpen};
 ghost use Rattle.records.specs.Rounds.{behind as behind-of, ahead as ahead-of};
 use nodes::Round;
 
@@ -56,4 +56,14 @@ pub fn no_round(round: Round) -> bool
         return true;
     }
     LAST < round.0
+}
+
+// Number 10: no such round, or not above the highest so far.
+pub fn cannot_open(own: Round, round: Round) -> bool
+    ensures { λ r. ⌜ r ≡ cannotOpen (own .0) (round .0) ⌝ }
+{
+    if no_round(round) {
+        return true;
+    }
+    !ahead(round, own)
 }

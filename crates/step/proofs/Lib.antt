@@ -6,3 +6,4 @@ pub mod Held
 pub mod Keeps
 pub mod Local
 pub mod Unique
+pub mod Among

@@ -125,7 +125,7 @@ module _ (o : Seen) (r : State) (m : Letter) where
   now = inRound (m .round) r
 
   -- nothing is sent and the record stays
-  abbrev Stays : Type 0
+  abbrev pub Stays : Type 0
   Stays = (a : Answer) × (receive o r m ≡ still r a)
 
   -- it is taken, in the message's round

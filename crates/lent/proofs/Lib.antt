@@ -1,0 +1,4 @@
+-- The laws of records, messages, steps and answers as numbers.
+pub mod Places
+pub mod Letters
+pub mod Back

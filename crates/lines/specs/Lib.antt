@@ -1,0 +1,2 @@
+-- The lines of a replay.
+pub mod Lines

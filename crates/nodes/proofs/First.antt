@@ -1,0 +1,50 @@
+-- Taking the smallest member out of a set, one after another. Assumes nothing.
+use mathlib.Core.Path.{_≡_, refl, sym, ap, ap₂, _∙_}
+use mathlib.Core.List.{List, [], _∷_, List·Memᴰ}
+use mathlib.Core.List.List·Memᴰ.{List·Memᴰ·head as here, List·Memᴰ·tail as there}
+use Prim.Native.Nat.{ℕ, zero, suc}
+use native.Mathlib.Nat.{suc-inj, suc-ne-zero}
+use native.Mathlib.Omega.{arith}
+use Rattle.lemmas.proofs.Lists.{ascending-unique}
+use Rattle.nodes.specs.declared.Node.{Node}
+use Rattle.nodes.specs.declared.Smallest.{Smallest}
+use Rattle.nodes.specs.declared.Smallest.the-variants.{At, Nothing}
+use Rattle.nodes.specs.Sets.{single, minus, members}
+use Rattle.nodes.specs.Words.{firstOf}
+use Rattle.nodes.proofs.Bit.{in-minus, bit-single-same, bit-single-other}
+use Rattle.nodes.proofs.Size.{members-in, members-ascending}
+
+abbrev number : Smallest → ℕ
+number (At k) = suc (k .0)
+number Nothing = zero
+
+first-of : (s : ℕ) (k : Node) (l : List ℕ) → members s ≡ l → firstOf l ≡ At k → members s ≡ k .0 ∷ members (minus s (single (k .0)))
+first-of s k [] e f = absurd (suc-ne-zero _ (sym (ap number f)))
+first-of s k (x ∷ l) e f =
+    let same : x ≡ k .0 = suc-inj (ap number f) in
+    let up = rw e at (members-ascending s) in
+    let rest : l ≡ members (minus s (single x)) =
+    ascending-unique l (members (minus s (single x))) (up .1) (members-ascending (minus s (single x))) (λ z. (
+      λ m. members-in (minus s (single x)) z .1 (in-minus s (single x) z .1 (
+        members-in s z .0 (rw e (there m)),
+        λ i. let h = up .0 z m in let out = bit-single-other x z (λ q. omega arith) in omega arith,
+      )),
+      λ m.
+          let i = in-minus s (single x) z .0 (members-in (minus s (single x)) z .0 m) in
+          other z (λ q. i .1 (rw q (bit-single-same x))) (rw e at (members-in s z .1 (i .0))),
+    )) in
+    e ∙ ap₂ (λ (y : ℕ) (r : List ℕ). y ∷ r) same (rest ∙ ap (λ (y : ℕ). members (minus s (single y))) same)
+  where
+    other : (z : ℕ) → (z ≡ x → ⊥) → List·Memᴰ z (x ∷ l) → List·Memᴰ z l
+    other z n (here q) = absurd (n q)
+    other z n (there m) = m
+
+pub members-first : (s : ℕ) (k : Node) → At k ≡ firstOf (members s) → members s ≡ k .0 ∷ members (minus s (single (k .0)))
+members-first s k e = first-of s k (members s) refl (sym e)
+
+none-of : (l : List ℕ) → Nothing ≡ firstOf l → l ≡ []
+none-of [] e = refl
+none-of (x ∷ l) e = absurd (suc-ne-zero _ (sym (ap number e)))
+
+pub members-ended : (s : ℕ) → Nothing ≡ firstOf (members s) → members s ≡ []
+members-ended s e = none-of (members s) e

@@ -1,0 +1,13 @@
+// A script: its bytes, its numbers, its steps.
+mod numbers;
+mod script;
+mod steps;
+
+pub use numbers::Count;
+pub use numbers::read;
+pub use script::BYTES;
+pub use script::NUMBERS;
+pub use script::Parsed;
+pub use script::STEPS;
+pub use script::Shape;
+pub use script::parse;

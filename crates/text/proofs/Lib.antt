@@ -1,0 +1,4 @@
+-- The laws of written text and of decimal numbers.
+pub mod Writing
+pub mod Decimal
+pub mod Examples

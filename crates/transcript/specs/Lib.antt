@@ -1,0 +1,2 @@
+-- What a script is answered with.
+pub mod Transcript

@@ -1,0 +1,113 @@
+//! What the paper says of every run from a fresh start, looked at while our own bench runs.
+//! Two programs could share a mistake; these sentences are about the graph and not about the messages.
+
+use crate::bench::{Answer, Bench, Step, DELIVER, OPEN};
+use crate::graph::{Graph, NodeSet};
+use crate::node::{Call, Freed, Verdict};
+use crate::reduction::{deadlocked, evidence, freed_from, reachable};
+use crate::replay::Outcome;
+use std::collections::BTreeSet;
+
+#[derive(Default)]
+pub struct Laws {
+    rounds_opened: usize,
+    arrived: BTreeSet<usize>,
+    ended: BTreeSet<u64>,
+    broken: Option<String>,
+}
+
+impl Laws {
+    pub fn watch(&mut self, bench: &Bench, step: Step, answer: Answer) {
+        match (step, answer) {
+            ([kind, ..], Answer::Refused(12)) => {
+                self.room_ran_out(bench, self.rounds_opened + usize::from(kind == OPEN))
+            }
+            (_, Answer::Refused(_)) => {}
+            ([OPEN, node, round], Answer::Opened(verdict)) => {
+                self.rounds_opened += 1;
+                self.ends(bench, node as usize, round, verdict);
+            }
+            ([DELIVER, number, _], Answer::Taken(verdict)) => {
+                self.arrived.insert(number as usize);
+                let message = bench.sent[number as usize];
+                self.ends(bench, message.to, message.round, verdict);
+            }
+            ([DELIVER, number, _], Answer::Old | Answer::Repeat) => {
+                self.arrived.insert(number as usize);
+            }
+            _ => self.must(false, || format!("{step:?} was answered {answer}")),
+        }
+    }
+
+    /// The first law found broken, also the one that can be judged only at the end of a run.
+    pub fn broken(mut self, outcome: &Outcome) -> Option<String> {
+        if let Outcome::Ran(_, bench) = outcome {
+            let newest = bench.highest;
+            let mut numbered = bench.sent.iter().enumerate();
+            let arrived = numbered
+                .all(|(number, message)| message.round != newest || self.arrived.contains(&number));
+            let ended = newest == 0 || self.ended.contains(&newest);
+            self.must(ended || !arrived, || {
+                format!("round {newest} did not end though all of it arrived")
+            });
+        }
+        self.broken
+    }
+
+    fn must(&mut self, law_holds: bool, broken: impl FnOnce() -> String) {
+        if !law_holds {
+            self.broken.get_or_insert_with(broken);
+        }
+    }
+
+    fn room_ran_out(&mut self, bench: &Bench, rounds: usize) {
+        let room = bench.room();
+        self.must(4 * bench.graph.edges() * rounds > room, || {
+            format!("12 with {rounds} rounds in a room of {room}")
+        });
+    }
+
+    /// What must hold at the step that gives a verdict.
+    fn ends(&mut self, bench: &Bench, node: usize, round: u64, verdict: Option<Verdict>) {
+        let Some(verdict) = verdict else { return };
+        let once = self.ended.insert(round);
+        self.must(once, || format!("round {round} ended twice"));
+        let stuck = deadlocked(&bench.graph).contains(&node);
+        self.must(stuck == (verdict == Verdict::Deadlocked), || {
+            format!("round {round} says {verdict:?}, the reduction otherwise")
+        });
+        let of_it = bench.sent.iter().filter(|message| message.round == round);
+        let sent = of_it.count();
+        self.must(sent == sent_by_a_round(&bench.graph, node), || {
+            format!("round {round} has sent {sent}, not as the paper counts")
+        });
+        if stuck && round == bench.highest {
+            let called = called_and_not_free(bench, round);
+            self.must(called == evidence(&bench.graph, node), || {
+                format!("round {round} has not called its evidence")
+            });
+        }
+    }
+}
+
+/// The paper's count: two for each edge leaving a reachable node, and two for each edge entering a node freed by a
+/// reduction that starts only from reachable active nodes.
+fn sent_by_a_round(graph: &Graph, node: usize) -> usize {
+    let reached = reachable(graph, node);
+    let freed = freed_from(graph, &reached);
+    let leaving: usize = reached
+        .iter()
+        .map(|node| graph.nodes[*node].out.len())
+        .sum();
+    let entering: usize = freed.iter().map(|node| graph.nodes[*node].into.len()).sum();
+    2 * leaving + 2 * entering
+}
+
+fn called_and_not_free(bench: &Bench, round: u64) -> NodeSet {
+    let asked = |node: &usize| {
+        let record = &bench.records[*node];
+        let called = record.round == round && record.call != Call::NotCalled;
+        called && record.freed == Freed::NotFree
+    };
+    (0..bench.records.len()).filter(asked).collect()
+}

@@ -1,0 +1,278 @@
+//! `mornings`: what is found about the paper's mornings, every answer computed here.
+
+use crate::bench::{Answer, Bench, Step, DELIVER, MOST_ROOM, OPEN};
+use crate::graph::{Refusal, Row, Rows};
+use crate::morning_graphs::*;
+use crate::node::Verdict;
+use crate::questions;
+use crate::reduction::{self, Ring};
+use crate::replay;
+use crate::script::Script;
+use std::fmt::Display;
+
+pub fn text() -> String {
+    let parts = [
+        ("The mornings", mornings()),
+        ("Lists", lists()),
+        ("Questions", hard_questions()),
+        ("Bad graphs", bad_graphs()),
+        ("Runs", runs()),
+    ];
+    let texts = parts.map(|(title, lines)| format!("{title}\n{}\n", lines.join("\n")));
+    texts.join("\n")
+}
+
+fn mornings() -> Vec<String> {
+    let table = [
+        ("1", morning_1()),
+        ("2", morning_2()),
+        ("4", morning_4()),
+        ("5", active_nodes(1)),
+        ("6", morning_6()),
+        ("10", morning_10()),
+        ("9, 2 of 3", morning_9(2)),
+        ("9, 1 of 3", morning_9(1)),
+        ("9, 3 of 3", morning_9(3)),
+        ("9, 0 of 3", morning_9(0)),
+        ("9, 4 of 3", morning_9(4)),
+        ("11, 64 nodes", active_nodes(64)),
+        ("11, 65 nodes", active_nodes(65)),
+        ("11, 512 edges", edges_512()),
+        ("11, 513 edges", edges_513()),
+    ];
+    let mut lines = Vec::new();
+    for (name, rows) in table {
+        lines.push(format!("morning {name}: {}", acceptance(&rows)));
+        if let Ok(graph) = rows.graph() {
+            let deadlocked = listed(reduction::deadlocked(&graph));
+            lines.push(format!("  deadlocked {deadlocked}"));
+            lines.extend((0..rows.nodes).map(|node| format!("  {}", about_node(&rows, node))));
+        }
+    }
+    lines
+}
+
+fn lists() -> Vec<String> {
+    let rows = morning_2();
+    let mut lines = vec![
+        about_list(&rows, 0, &[0, 2, 3, 4, 6, 7]),
+        about_list(&rows, 0, &[7, 0, 6, 2, 4, 3, 0, 7]),
+        about_list(&rows, 0, &[0, 2, 4]),
+        about_list(&rows, 8, &[0, 2, 3, 4, 6, 7]),
+        about_list(&rows, 0, &[0, 2, 3, 4, 6, 7, 9]),
+    ];
+    lines.extend((0..rows.nodes).map(|node| about_list(&rows, node, &[])));
+    lines
+}
+
+/// Questions with something wrong or just right about them, often two things at once so that the order is seen.
+fn hard_questions() -> Vec<String> {
+    let good = morning_2();
+    let row_short = Rows {
+        nodes: 11,
+        ..morning_2()
+    };
+    let bad_kind = with_row(&good, 4, [3, 0, 1, 0, 0, 0]);
+    vec![
+        about_node(&good, 10),
+        about_node(&good, u64::MAX),
+        about_node(&row_short, 10),
+        about_list(&good, 0, &[0, 2, 3, 4, 6, 7, 255]),
+        about_list(&good, 1, &[10]),
+        about_list(&good, 10, &[10]),
+        about_list(&row_short, 10, &[10]),
+        about_room(&good, 0, 9),
+        about_room(&good, 1, 9),
+        about_room(&good, 10, 9),
+        about_room(&row_short, 10, 9),
+        about_room(&good, 1, 10),
+        about_room(&good, 0, 10),
+        about_room(&good, 0, 12),
+        about_node(&bad_kind, 0),
+        about_list(&bad_kind, 0, &[0]),
+        about_room(&bad_kind, 0, 12),
+    ]
+}
+
+fn bad_graphs() -> Vec<String> {
+    let counts = [
+        ("no nodes", 0, 0),
+        ("no nodes and a row", 0, 6),
+        ("65 nodes", 65, 390),
+        ("the largest count of nodes", u64::MAX, 6),
+        ("two nodes and no row", 2, 0),
+        ("two nodes and one row", 2, 6),
+        ("two nodes and three rows", 2, 18),
+        ("one node and five numbers", 1, 5),
+        ("one node and seven numbers", 1, 7),
+    ];
+    let mut lines = Vec::new();
+    for (name, nodes, count) in counts {
+        let numbers = vec![0; count];
+        let rows = Rows { nodes, numbers };
+        lines.push(format!("{name}: {}", acceptance(&rows)));
+    }
+    for row in TRIED_ROWS {
+        let rows = with_row(&active_nodes(3), 0, row);
+        lines.push(format!("row {}: {}", listed(row), acceptance(&rows)));
+    }
+    // Each has the faults of the one before it as well, so the order of the numbers is seen.
+    let mut rows = edges_513();
+    lines.push(format!("513 edges: {}", acceptance(&rows)));
+    let faults = [
+        ("a threshold of 0", 60, [1, 0, 255, 0, 0, 0]),
+        ("no set", 40, [2, 0, 0, 0, 0, 0]),
+        ("kind 3", 41, [3, 0, 255, 0, 0, 0]),
+        ("everything wrong", 40, [u64::MAX; 6]),
+    ];
+    for (fault, row, numbers) in faults {
+        rows = with_row(&rows, row, numbers);
+        lines.push(format!("and {fault} in row {row}: {}", acceptance(&rows)));
+    }
+    lines
+}
+
+/// First rows of a graph of three nodes: each fault with its neighbours just inside the rule.
+#[rustfmt::skip]
+const TRIED_ROWS: [Row; 36] = [
+    // The kind.
+    [3, 0, 0, 0, 0, 0], [u64::MAX, 0, 0, 0, 0, 0],
+    // A member that is no node, at every kind.
+    [1, 1, 8, 0, 0, 0], [2, 0, 2, 0, 0, 1 << 63], [2, 0, u64::MAX, 0, 0, 0], [0, 0, 0, 8, 0, 0], [1, 1, 2, 8, 0, 0],
+    // The node itself.
+    [1, 1, 1, 0, 0, 0], [2, 0, 2, 0, 0, 5], [0, 0, 1, 0, 0, 0],
+    // The threshold.
+    [0, 1, 0, 0, 0, 0], [1, 0, 6, 0, 0, 0], [1, 1, 6, 0, 0, 0], [1, 2, 6, 0, 0, 0], [1, 3, 6, 0, 0, 0],
+    [1, u64::MAX, 6, 0, 0, 0], [1, 0, 0, 0, 0, 0], [1, 1, 0, 0, 0, 0], [2, 1, 6, 0, 0, 0],
+    // Sets that the kind doesn't have.
+    [0, 0, 2, 0, 0, 0], [0, 0, 0, 0, 0, 2], [1, 1, 6, 2, 0, 0], [1, 1, 6, 0, 2, 0], [1, 1, 6, 0, 0, 2],
+    // No set, or one inside another.
+    [2, 0, 0, 0, 0, 0], [2, 0, 2, 6, 0, 0], [2, 0, 6, 2, 0, 0], [2, 0, 2, 0, 6, 0], [2, 0, 2, 0, 0, 6],
+    [2, 0, 0, 2, 6, 0], [2, 0, 0, 6, 0, 2], [2, 0, 0, 0, 6, 6],
+    [2, 0, 2, 4, 0, 0], [2, 0, 0, 0, 6, 0], [2, 0, 0, 4, 0, 2], [0, 0, 0, 0, 0, 0],
+];
+
+fn runs() -> Vec<String> {
+    let open = |round: u64| [OPEN, 0, round];
+    let take = |message: u64| [DELIVER, message, 0];
+    let in_order = [open(1), take(0), take(1), take(2), take(3)];
+    let withheld = [
+        open(1),
+        take(0),
+        open(2),
+        take(2),
+        take(3),
+        take(4),
+        take(5),
+        take(1),
+    ];
+    let twice = [open(1), take(0), take(0)];
+    let rounds = [9, 10, 9, 65_535, 65_536, 65_535].map(open);
+    vec![
+        about_run("morning 6", morning_6(), &in_order),
+        about_run("morning 7", morning_6(), &withheld),
+        about_run("morning 8", morning_6(), &twice),
+        about_run("morning 11, rounds", active_nodes(1), &rounds),
+    ]
+}
+
+fn about_run(label: &str, rows: Rows, steps: &[Step]) -> String {
+    let script = Script {
+        rows,
+        room: 16,
+        steps: steps.to_vec(),
+    };
+    let lines = replay::replay(script.text().as_bytes());
+    format!("{label}\n{}", lines.trim_end())
+}
+
+fn acceptance(rows: &Rows) -> String {
+    let edges = rows.graph().map(|graph| graph.edges());
+    said(edges, |edges| format!("accepted, edges {edges}"))
+}
+
+fn about_node(rows: &Rows, node: u64) -> String {
+    let claim = said(questions::is_deadlocked(rows, node), deadlocked_or_not);
+    let ring = said(questions::ring(rows, node), |ring| match ring {
+        Ring::NotDeadlocked => "no ring",
+        Ring::In => "in the ring",
+        Ring::Behind => "behind the ring",
+    });
+    let mut room = [0u8; 64];
+    let written = questions::write_evidence(rows, node, &mut room);
+    let evidence = said(written, |written| listed(&room[..written]));
+    let round = full_round(rows, node);
+    format!("node {node}: {claim}, {ring}, evidence {evidence}, a round {round}")
+}
+
+/// Opens round 1 on a fresh bench and delivers every message in the order of the numbers.
+fn full_round(rows: &Rows, node: u64) -> String {
+    let Ok(graph) = rows.graph() else {
+        return String::from("is refused 13 row 0");
+    };
+    let mut bench = Bench::fresh(graph, MOST_ROOM);
+    let mut answers = vec![bench.step([OPEN, node, 1])];
+    let mut next = 0;
+    while next < bench.sent.len() {
+        answers.push(bench.step([DELIVER, next as u64, 0]));
+        next += 1;
+    }
+    let mut says = "nothing";
+    for answer in answers {
+        match answer {
+            Answer::Refused(number) => return format!("is refused {number} row 0"),
+            Answer::Opened(Some(given)) | Answer::Taken(Some(given)) => {
+                says = deadlocked_or_not(given == Verdict::Deadlocked)
+            }
+            _ => {}
+        }
+    }
+    format!("sends {} and says {says}", bench.sent.len())
+}
+
+fn about_list(rows: &Rows, node: u64, list: &[u8]) -> String {
+    let judged = said(questions::list_passes(rows, node, list), |passes| {
+        if passes {
+            "passes"
+        } else {
+            "fails"
+        }
+    });
+    format!("list {} for {node}: {judged}", listed(list))
+}
+
+/// The room is filled with 255 before the call, so that untouched bytes can be told.
+fn about_room(rows: &Rows, node: u64, size: usize) -> String {
+    let mut room = vec![255u8; size];
+    let written = questions::write_evidence(rows, node, &mut room);
+    let written = said(written, |written| written);
+    format!("room {size} for {node}: {written}, bytes {}", listed(&room))
+}
+
+/// The answer in words, or the refusal.
+fn said<Given, Words: Display>(
+    answer: Result<Given, Refusal>,
+    words: impl Fn(Given) -> Words,
+) -> String {
+    match answer {
+        Ok(given) => words(given).to_string(),
+        Err(refusal) => refusal.to_string(),
+    }
+}
+
+fn deadlocked_or_not(deadlocked: bool) -> &'static str {
+    if deadlocked {
+        "deadlocked"
+    } else {
+        "not deadlocked"
+    }
+}
+
+fn listed<Item: Display>(items: impl IntoIterator<Item = Item>) -> String {
+    let words: Vec<String> = items.into_iter().map(|item| item.to_string()).collect();
+    if words.is_empty() {
+        String::from("none")
+    } else {
+        words.join(" ")
+    }
+}

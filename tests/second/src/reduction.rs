@@ -1,0 +1,72 @@
+//! The plain reduction of a whole graph, and what follows from it: evidence, ring, lists.
+
+use crate::graph::{Graph, NodeSet};
+
+/// Frees nodes until no further one can go; of the active nodes only those in `may_start` are freed.
+pub fn freed_from(graph: &Graph, may_start: &NodeSet) -> NodeSet {
+    let mut freed = NodeSet::new();
+    loop {
+        let next = graph.nodes.iter().find(|node| {
+            let allowed = !node.is_active() || may_start.contains(&node.me);
+            allowed && !freed.contains(&node.me) && node.condition.holds(&freed)
+        });
+        match next {
+            Some(node) => freed.insert(node.me),
+            None => return freed,
+        };
+    }
+}
+
+/// The nodes that no reduction frees. Freeing never spoils a condition, so one greedy run is enough.
+pub fn deadlocked(graph: &Graph) -> NodeSet {
+    let everyone: NodeSet = (0..graph.len()).collect();
+    &everyone - &freed_from(graph, &everyone)
+}
+
+/// Every node that a path of no or more edges leads to.
+pub fn reachable(graph: &Graph, from: usize) -> NodeSet {
+    let mut seen = NodeSet::from([from]);
+    let mut to_visit = vec![from];
+    while let Some(node) = to_visit.pop() {
+        for next in &graph.nodes[node].out {
+            if seen.insert(*next) {
+                to_visit.push(*next);
+            }
+        }
+    }
+    seen
+}
+
+pub fn evidence(graph: &Graph, node: usize) -> NodeSet {
+    let stuck = deadlocked(graph);
+    if !stuck.contains(&node) {
+        return NodeSet::new();
+    }
+    &reachable(graph, node) & &stuck
+}
+
+pub enum Ring {
+    NotDeadlocked,
+    In,
+    Behind,
+}
+
+pub fn ring(graph: &Graph, node: usize) -> Ring {
+    // At least one edge must be walked, so the search begins at the nodes waited on.
+    let mut waited_on = graph.nodes[node].out.iter();
+    if !deadlocked(graph).contains(&node) {
+        Ring::NotDeadlocked
+    } else if waited_on.any(|next| reachable(graph, *next).contains(&node)) {
+        Ring::In
+    } else {
+        Ring::Behind
+    }
+}
+
+/// Whether the list is evidence for the node: it names the node, and the nodes outside it satisfy no member.
+pub fn list_passes(graph: &Graph, node: usize, list: &NodeSet) -> bool {
+    let everyone: NodeSet = (0..graph.len()).collect();
+    let outside = &everyone - list;
+    let satisfied = |member: &usize| graph.nodes[*member].condition.holds(&outside);
+    list.contains(&node) && !list.iter().any(satisfied)
+}
