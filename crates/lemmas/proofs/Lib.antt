@@ -1,4 +1,4 @@
--- The laws that every crate cites: branches and matches, Boolean tests, lists.
+-- The laws that every crate cites: branches and matches, Boolean tests, lists, runs of numbers stored in a list.
 pub mod Cases
 pub mod Tests
 pub mod Lists

@@ -1,4 +1,4 @@
--- Lists of numbers: a test of some member, and order. Assumes nothing.
+-- Lists of numbers and the numbers below one: a test of some of them, and order. Assumes nothing.
 use mathlib.Core.Path.{_≡_, refl, sym, ap, ap₂, _∙_}
 use mathlib.Core.Bool.{Bool, true, false, _||_, false≢true}
 use mathlib.Core.Logic.{_⊎_, inl, inr, ⊎-elim, _↔_}
