@@ -14,9 +14,9 @@ use Rattle.step.specs.declared.answers.Verdict.{Verdict}
 use Rattle.step.specs.declared.answers.Answer.the-variants.{Old, Stray, Repeat, Taken, Opened}
 use Rattle.step.specs.Answers.{codeOf}
 use Rattle.step.specs.Step.{Seen, Outcome, seenIn, beCalled, react, settle, still, openRound, stray, receive, arrive, take}
+use Rattle.step.specs.Letters.{lettersOf}
 use Rattle.step.proofs.Said.{verdict-code-le}
 use Rattle.lent.specs.declared.steps.Step.{Step}
-use Rattle.lent.specs.Coded.{lettersOf}
 use Rattle.bench.specs.Bench.{Bench, After, after, room}
 use Rattle.bench.specs.Steps.{refuse, join, arriveAt, takeStep}
 use Rattle.bench.proofs.Ways.{Way, step-way}

@@ -17,9 +17,10 @@ use Rattle.records.specs.Messages.{Letter}
 use Rattle.waits.specs.Waits.{Waits}
 use Rattle.step.specs.declared.answers.Answer.{Answer}
 use Rattle.step.specs.Step.{Outcome, seenIn, still, openRound}
+use Rattle.step.specs.Letters.{lettersOf}
 use Rattle.lent.specs.declared.steps.Step.{Step}
 use Rattle.lent.specs.Kept.{stateAt, putState}
-use Rattle.lent.specs.Coded.{numberOf, lettersOf}
+use Rattle.lent.specs.Coded.{numberOf}
 use Rattle.lent.proofs.Back.{record-kept, record-stands}
 use Rattle.bench.specs.Bench.{Bench, After, bench, after, room}
 use Rattle.bench.specs.Steps.{refuse, join, arriveAt, takeStep}

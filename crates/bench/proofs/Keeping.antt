@@ -22,17 +22,18 @@ use Rattle.records.specs.declared.messages.Kind.{Kind}
 use Rattle.records.specs.declared.messages.Kind.the-variants.{Notify, Grant, Ack, Done}
 use Rattle.records.specs.declared.messages.Message.{Message}
 use Rattle.records.specs.Rounds.{lastRound, ahead, noRound, cannotOpen}
-use Rattle.records.specs.Messages.{Letter, kinds, letterOf, strangeMessage}
+use Rattle.records.specs.Messages.{Letter, kinds, kindNumber, letterOf, strangeMessage}
 use Rattle.records.specs.Records.{State, inRound, strangeRecord}
 use Rattle.records.proofs.Higher.{not-ahead-itself, not-ahead-later, round-range, in-round-exists, in-round-not-ahead}
 use Rattle.records.proofs.Among.{Among, record-among, among-record}
 use Rattle.waits.specs.Rows.{waitsOf}
 use Rattle.step.specs.declared.answers.Answer.{Answer}
 use Rattle.step.specs.Step.{Receivers, Outcome, still, seenIn, openRound, receive}
+use Rattle.step.specs.Letters.{letters, lettersOf}
 use Rattle.step.proofs.Among.{ToAmong, nobody-among, Within, open-among, receive-among}
 use Rattle.lent.specs.declared.steps.Step.{Step}
 use Rattle.lent.specs.Kept.{stateAt, putState}
-use Rattle.lent.specs.Coded.{kindNumber, baseOf, messageOf, numberOf, letters, lettersOf}
+use Rattle.lent.specs.Coded.{baseOf, messageOf, numberOf}
 use Rattle.lent.proofs.Letters.{kind-number-le, letters-numbers}
 use Rattle.lent.proofs.Back.{length-put, record-back, record-kept, message-kind, message-from, message-to, message-round}
 use Rattle.bench.specs.Bench.{Bench, After, bench, after, room, roomOf}

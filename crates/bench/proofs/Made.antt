@@ -32,11 +32,12 @@ use Rattle.waits.specs.Rows.{rowAt, outOf, holdsOf, waitsOf, Shaped}
 use Rattle.waits.specs.Numbers.{checkOf}
 use Rattle.waits.proofs.Table.{accepted-shaped}
 use Rattle.step.specs.Step.{Seen, Outcome, seenIn, openRound, receive}
+use Rattle.step.specs.Letters.{lettersOf, howMany}
 use Rattle.step.specs.Sent.{toWhom}
 use Rattle.step.proofs.Among.{ToAmong}
+use Rattle.step.proofs.Letters.{letters-count}
 use Rattle.lent.specs.Kept.{recordSize, recordAt, stateAt, putState}
-use Rattle.lent.specs.Coded.{messageOf, numberOf, lettersOf, howMany}
-use Rattle.lent.proofs.Letters.{letters-count}
+use Rattle.lent.specs.Coded.{messageOf, numberOf}
 use Rattle.bench.specs.declared.steps.Reply.{Reply}
 use Rattle.bench.specs.Bench.{Bench, After, bench, after, refusal, roomOf, mostRoom}
 use Rattle.bench.specs.Strange.{isRefused, strangeKept, strangeSent, strangeRecords, strangeMessages, Good}

@@ -12,9 +12,10 @@ use Rattle.waits.specs.Waits.{Waits}
 use Rattle.waits.specs.Rows.{waitsOf}
 use Rattle.step.specs.declared.answers.Answer.the-variants.{Refused}
 use Rattle.step.specs.Step.{Outcome, seenIn, openRound, receive}
+use Rattle.step.specs.Letters.{lettersOf}
 use Rattle.lent.specs.declared.steps.Step.{Step}
 use Rattle.lent.specs.Kept.{stateAt, putState}
-use Rattle.lent.specs.Coded.{messageOf, numberOf, lettersOf}
+use Rattle.lent.specs.Coded.{messageOf, numberOf}
 use Rattle.bench.specs.Bench.{Bench, After, bench, after, room, refusal}
 use Rattle.bench.specs.Strange.{strangeBench}
 

@@ -1,7 +1,7 @@
 -- Over any lawful graph of waits: a node is deadlocked exactly if some list passes for it. Assumes nothing.
 use mathlib.Core.Path.{_≡_, refl, sym, ap, _∙_}
 use mathlib.Core.Bool.{Bool, true, false, not}
-use mathlib.Core.Logic.{_⊎_, inl, inr, ⊎-elim, _↔_}
+use mathlib.Core.Logic.{inl, inr, ⊎-elim, _↔_}
 use mathlib.Core.List.{List, [], _∷_, List·Memᴰ}
 use Prim.Native.Nat.{ℕ, _<_}
 use native.Mathlib.Omega.{arith}
@@ -9,7 +9,7 @@ use borrow.Author.Tests.{not-true}
 use Rattle.lemmas.proofs.Tests.{not-both, not-true-false, same-test, and-intro, and-left, and-right}
 use Rattle.lemmas.proofs.Lists.{any-some, some-any}
 use Rattle.nodes.specs.Sets.{bit, In, Inside, has, minus, below, members, setOf}
-use Rattle.nodes.proofs.Bit.{bit-empty, empty-inside, in-or-out, in-with, in-below, in-minus, has-in, in-has, inside-in, inside-member, list-in, in-list, same-list}
+use Rattle.nodes.proofs.Bit.{empty-inside, in-or-out, in-with, in-below, in-minus, has-in, in-has, inside-in, inside-member, list-in, in-list, same-list}
 use Rattle.nodes.proofs.Size.{members-in}
 use Rattle.waits.specs.Waits.{Waits, Lawful}
 use Rattle.waits.specs.Deadlocked.{Reduction, Deadlocked, Reachable, outside, passes}
@@ -19,7 +19,7 @@ use Rattle.deadlock.proofs.Paths.{reachable-onward, reachable-node}
 
 -- ---- what the test says
 module _ (w : Waits) where
-  in-outside : (l : List ℕ) (k : ℕ) → In k (outside w l) ↔ ((k < w .nodes) × (List·Memᴰ k l → ⊥))
+  pub in-outside : (l : List ℕ) (k : ℕ) → In k (outside w l) ↔ ((k < w .nodes) × (List·Memᴰ k l → ⊥))
   unfolding outside
   in-outside l k = (
     λ m. let p = in-minus (below (w .nodes)) (setOf l) k .0 m in (in-below (w .nodes) k .0 (p .0), λ i. p .1 (list-in l k i)),

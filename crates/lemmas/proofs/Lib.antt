@@ -3,3 +3,5 @@ pub mod Cases
 pub mod Tests
 pub mod Lists
 pub mod Stores
+pub mod Once
+pub mod Each

@@ -1,7 +1,8 @@
--- Lists of numbers and the numbers below one: a test of some of them, and what it means to ascend. Assumes nothing.
+-- Lists and the numbers below one: a test of some of them, a sum, what it means to ascend and to have nothing twice. Assumes
+-- nothing.
 use mathlib.Core.Bool.{Bool, false, _||_}
 use mathlib.Core.List.{List, [], _∷_, List·Memᴰ}
-use Prim.Native.Nat.{ℕ, zero, suc, _<_}
+use Prim.Native.Nat.{ℕ, zero, suc, _+_, _<_}
 
 -- some number of the list meets the test
 abbrev pub anyOf : (ℕ → Bool) → List ℕ → Bool
@@ -13,7 +14,17 @@ abbrev pub anyBelow : (ℕ → Bool) → ℕ → Bool
 anyBelow p zero = false
 anyBelow p (suc n) = anyBelow p n || p n
 
+-- the sum of f over the list
+abbrev pub total : {A : Type 0} → (A → ℕ) → List A → ℕ
+total f [] = 0
+total f (a ∷ l) = f a + total f l
+
 -- each number is below all that follow it, so none stands twice
 abbrev pub Ascending : List ℕ → Type 0
 Ascending [] = Unit {0}
 Ascending (a ∷ l) = ((b : ℕ) → List·Memᴰ b l → a < b) × Ascending l
+
+-- nothing stands in the list twice
+abbrev pub Once : {A : Type 0} → List A → Type 0
+Once [] = Unit {0}
+Once (a ∷ l) = (List·Memᴰ a l → ⊥) × Once l

@@ -15,11 +15,11 @@ use Rattle.records.specs.declared.causes.Why.the-variants.{Not, Itself, By}
 use Rattle.records.specs.declared.messages.Kind.{Kind}
 use Rattle.records.specs.declared.messages.Kind.the-variants.{Notify, Grant, Ack, Done}
 use Rattle.records.specs.Causes.{whyOf, causeNumber}
-use Rattle.records.specs.Messages.{Letter, kindOf, letterOf}
+use Rattle.records.specs.Messages.{Letter, kindOf, kindNumber, letterOf}
 use Rattle.records.specs.Records.{State}
 use Rattle.records.proofs.Unique.{numbered}
 use Rattle.lent.specs.Kept.{recordSize, recordAt, stateAt, numbersOf, putState}
-use Rattle.lent.specs.Coded.{kindNumber, messageOf, numberOf}
+use Rattle.lent.specs.Coded.{messageOf, numberOf}
 use Rattle.lent.proofs.Letters.{kind-number-le}
 
 -- ---- records

@@ -1,18 +1,19 @@
 -- The messages of a step as numbers, kind after kind. Assumes nothing.
-use mathlib.Core.Path.{_≡_, refl, sym, ap, ap₂, _∙_}
+use mathlib.Core.Path.{_≡_, refl, sym, ap, _∙_}
 use mathlib.Core.List.{List, [], _∷_, _++_, map, map-append}
 use Prim.Native.Nat.{ℕ, _+_, _≤_}
 use native.Mathlib.Omega.{arith}
-use lib.ListN.{length, length-map, length-append}
+use lib.ListN.{length, length-map}
 use lib.Seq.{sets}
 use Rattle.lemmas.proofs.Stores.{sets-append}
 use Rattle.nodes.specs.Sets.{members, size}
-use Rattle.nodes.proofs.Size.{size-members}
 use Rattle.records.specs.declared.messages.Kind.{Kind}
 use Rattle.records.specs.declared.messages.Kind.the-variants.{Notify, Grant, Ack, Done}
-use Rattle.records.specs.Messages.{Letter}
+use Rattle.records.specs.Messages.{Letter, kindNumber}
 use Rattle.step.specs.Step.{Receivers}
-use Rattle.lent.specs.Coded.{kindNumber, baseOf, numberOf, letters, lettersOf, howMany}
+use Rattle.step.specs.Letters.{letter, letters, lettersOf, howMany}
+use Rattle.step.proofs.Letters.{letters-length}
+use Rattle.lent.specs.Coded.{baseOf, numberOf}
 use Rattle.lent.proofs.Places.{numbers}
 
 pub kind-number-le : (kind : Kind) → kindNumber kind ≤ 3
@@ -22,26 +23,13 @@ kind-number-le Ack = omega arith
 kind-number-le Done = omega arith
 
 each : (kind : Kind) (from round : ℕ) (l : List ℕ)
-    → map (λ k. baseOf kind from round + k) l ≡ map numberOf (map (λ k. record { kind = kind; from = from; to = k; round = round }) l)
+    → map (λ k. baseOf kind from round + k) l ≡ map numberOf (map (λ k. letter kind from k round) l)
 unfolding numberOf
 each kind from round [] = refl
 each kind from round (k ∷ l) = ap (λ (x : List ℕ). (baseOf kind from round + k) ∷ x) (each kind from round l)
 
 pub letters-numbers : (kind : Kind) (from round s : ℕ) → numbers (baseOf kind from round) s ≡ map numberOf (letters kind from round s)
 letters-numbers kind from round s = each kind from round (members s)
-
-letters-length : (kind : Kind) (from round s : ℕ) → length (letters kind from round s) ≡ size s
-letters-length kind from round s = length-map (members s) _ ∙ sym (size-members s)
-
-pub letters-count : (from round : ℕ) (r : Receivers) → length (lettersOf from round r) ≡ howMany r
-unfolding lettersOf
-letters-count from round r =
-    length-append (letters Notify from round (r .notify)) _
-    ∙ ap₂ _+_ (letters-length Notify from round (r .notify))
-    (length-append (letters Grant from round (r .grant)) _
-    ∙ ap₂ _+_ (letters-length Grant from round (r .grant))
-    (length-append (letters Ack from round (r .ack)) _
-    ∙ ap₂ _+_ (letters-length Ack from round (r .ack)) (letters-length Done from round (r .done))))
 
 -- messages of one kind written from a place on, and where the next goes
 abbrev pub Wrote : Kind → ℕ → ℕ → ℕ → List ℕ → ℕ → List ℕ → ℕ → Type 0

@@ -10,13 +10,14 @@ use Rattle.records.specs.Messages.{letterOf}
 use Rattle.records.specs.Records.{State, blankOf, inRound}
 use Rattle.waits.specs.declared.numbers.Checked.{Checked}
 use Rattle.waits.specs.declared.numbers.Checked.the-variants.{Accepted, Refused}
-use Rattle.waits.specs.Rows.{rowAt}
+use Rattle.waits.specs.Waits.{inOf}
+use Rattle.waits.specs.Rows.{rowAt, outOf, holdsOf, waitsOf}
 use Rattle.waits.proofs.Table.{accepted-silent, fine}
 use Rattle.waits.proofs.Condition.{holds-more}
 use Rattle.waits.proofs.Lawful.{active}
 use Rattle.step.specs.declared.answers.Answer.{Answer}
 use Rattle.step.specs.declared.answers.Answer.the-variants.{Refused as Answer·Refused}
-use Rattle.step.specs.Step.{Outcome, still, openRound, receive}
+use Rattle.step.specs.Step.{Outcome, seenIn, still, openRound, receive}
 use Rattle.step.specs.Sent.{Grows, Sound, Formed}
 use Rattle.step.proofs.Local.{open-grows, open-formed, receive-grows, receive-formed}
 use Rattle.node.specs.Refusals.{ownLines, checkOwnOf, checkOpenOf, checkDeliverOf}
@@ -24,6 +25,10 @@ use Rattle.node.specs.Calls.{own, unlessRefused, openOf, deliverOf}
 use Rattle.node.proofs.Refused.{open-own, deliver-own}
 
 module _ (n me : ℕ) (row : List ℕ) (ins : ℕ) where
+  -- Theorem: told its row and its IN of a graph, a controller sees what the graph's node sees, of which the rounds' theorems speak.
+  pub own-seen : (rows : List ℕ) → rowAt row 0 ≡ rowAt rows me → ins ≡ inOf (waitsOf n rows) me → own me row ins ≡ seenIn (waitsOf n rows) me
+  own-seen rows e f = λ k. record { me = me; out = outOf (e k); holds = holdsOf (e k); ins = f k }
+
   -- a row that isn't refused
   own-sound : checkOwnOf n me row ≡ Accepted → Sound (own me row ins)
   unfolding checkOwnOf

@@ -283,7 +283,6 @@ single-inside s k j = omega (arith, bit-with s k j)
 pub with-inside : (s k t : ℕ) → Inside s t → In k t → Inside (with s k) t
 with-inside s k t i m = inside-in (with s k) t (λ j q. ⊎-elim (λ (e : In j s). inside-member s t j i e) (λ (e : j ≡ k). rw e m) (in-with s k j .0 q))
 
--- the empty set
 pub single-below : (n k : ℕ) → k < n → Inside (single k) (below n)
 single-below n k h = inside-in (single k) (below n) (λ j i. in-below n j .1 (rw (single-only k j i) h))
   where

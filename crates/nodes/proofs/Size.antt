@@ -14,8 +14,9 @@ use lib.Arith.{half-le, bin-ind, lt-one, digits-mod, digits-div}
 use lib.Pow.{pow-pos, shr-lt, mod-pow-add}
 use lib.Bits.{bitAnd, bitOr, block-half, block-odd, and-step, or-step, and-zero-l, or-zero-l}
 use lib.ListN.{length, length-append}
-use Rattle.lemmas.specs.Lists.{Ascending}
+use Rattle.lemmas.specs.Lists.{Ascending, Once}
 use Rattle.lemmas.proofs.Lists.{ascending-snoc}
+use Rattle.lemmas.proofs.Once.{ascending-once}
 use Rattle.nodes.specs.Sets.{bit, In, has, union, meet, minus, with, single, Inside, only, membersFrom, members, size}
 use Rattle.nodes.proofs.Bit.{bit-zero, bit-suc, bit-le, in-lt, has-bit, has-in, in-has, pow-gt, with-union, bit-union, bit-meet, bit-minus, bit-single-other, empty-same, same, inside-both, minus-none}
 
@@ -125,6 +126,9 @@ members-in s j = (
 
 pub members-ascending : (s : ℕ) → Ascending (members s)
 members-ascending s = rw (members-all s s (pow-gt s)) at (below-ascending s s)
+
+pub members-once : (s : ℕ) → Once (members s)
+members-once s = ascending-once (members s) (members-ascending s)
 
 -- ---- the size is the length of that list
 pub size-members : (s : ℕ) → size s ≡ length (members s)

@@ -7,7 +7,7 @@ use lib.Dec.{eqb, ltb}
 use borrow.Author.Tests.{ltb-true, ltb-false, le-ltb, eqb-false, ne-eqb}
 use Rattle.lemmas.proofs.Tests.{or-left-false, or-right-false}
 use Rattle.records.specs.declared.rounds.Compared.the-variants.{Behind, Same, Ahead}
-use Rattle.records.specs.Rounds.{lastRound, compareOf, isAhead, ahead, noRound}
+use Rattle.records.specs.Rounds.{lastRound, compareOf, isAhead, behind, ahead, noRound}
 use Rattle.records.specs.Records.{State, blankOf, inRound}
 
 -- a round is ahead exactly if it is the higher one
@@ -26,6 +26,10 @@ higher round own = by-test round own (ltb round own) refl
 
 pub not-ahead-itself : (round : ℕ) → ahead round round ≡ false
 not-ahead-itself round = higher round round ∙ le-ltb round round (omega arith)
+
+pub not-behind-itself : (round : ℕ) → behind round round ≡ false
+unfolding behind compareOf
+not-behind-itself round = rw (le-ltb round round (omega arith)) refl
 
 -- a round that isn't above the highest so far isn't above a higher one
 pub not-ahead-later : (round own later : ℕ) → ahead round own ≡ false → ahead later own ≡ true → ahead round later ≡ false
@@ -51,6 +55,11 @@ module _ (m : ℕ) (r : State) where
   unfolding inRound
   in-round-as true e = ap (λ (b : Bool). (cond b (blankOf m) r) .round) e
   in-round-as false e = ap (λ (b : Bool). (cond b (blankOf m) r) .round) e
+
+  -- a record that is in the round stands as it is
+  pub in-round-stays : r .round ≡ m → inRound m r ≡ r
+  unfolding inRound
+  in-round-stays e = ap (λ (b : Bool). cond b (blankOf m) r) (ap (ahead m) e ∙ not-ahead-itself m)
 
   -- it exists, if the message's does
   exists-as : (b : Bool) → ahead m (r .round) ≡ b → noRound m ≡ false → r .round ≤ lastRound → noRound (inRound m r .round) ≡ false

@@ -4,3 +4,4 @@ pub mod Fits
 pub mod Unique
 pub mod Higher
 pub mod Among
+pub mod Marks

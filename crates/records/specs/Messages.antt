@@ -18,6 +18,13 @@ kindOf (suc zero) = Grant
 kindOf (suc (suc zero)) = Ack
 kindOf (suc (suc (suc k))) = Done
 
+-- and back
+abbrev pub kindNumber : Kind → ℕ
+kindNumber Notify = 0
+kindNumber Grant = 1
+kindNumber Ack = 2
+kindNumber Done = 3
+
 -- A message as the rules see it: kind, sender, receiver, round.
 pub record Letter : Type 0 where
   pub kind : Kind

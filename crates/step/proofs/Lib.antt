@@ -5,5 +5,7 @@ pub mod Fits
 pub mod Held
 pub mod Keeps
 pub mod Local
+pub mod Taken
+pub mod Letters
 pub mod Unique
 pub mod Among

@@ -132,7 +132,7 @@ module _ (o : Seen) (r : State) (m : Letter) where
   abbrev Takes : Type 0
   Takes = (receive o r m ≡ take o now m) × Fresh o now m
 
-  not-old : behind (m .round) (r .round) ≡ false → receive o r m ≡ arrive o r now m
+  pub not-old : behind (m .round) (r .round) ≡ false → receive o r m ≡ arrive o r now m
   unfolding receive
   not-old e = ap (λ (b : Bool). cond b (still r Old) (arrive o r now m)) e
 
@@ -140,7 +140,7 @@ module _ (o : Seen) (r : State) (m : Letter) where
   unfolding receive
   old e = ap (λ (b : Bool). cond b (still r Old) (arrive o r now m)) e
 
-  arrives : {a b : Bool} → stray o now m ≡ a → has (hadOf (m .kind) now) (m .from) ≡ b
+  pub arrives : {a b : Bool} → stray o now m ≡ a → has (hadOf (m .kind) now) (m .from) ≡ b
       → arrive o r now m ≡ cond a (still r Stray) (cond b (still r Repeat) (take o now m))
   unfolding arrive
   arrives e f = ap₂ (λ (a b : Bool). cond a (still r Stray) (cond b (still r Repeat) (take o now m))) e f

@@ -6,3 +6,4 @@ pub mod Left
 pub mod Condition
 pub mod Lawful
 pub mod In
+pub mod Meets

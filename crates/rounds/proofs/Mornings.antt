@@ -1,0 +1,52 @@
+-- The definitions of a round, computed on two of the paper's mornings, message by message. Assumes nothing.
+use mathlib.Core.Path.{_≡_, refl}
+use mathlib.Core.List.{List, [], _∷_}
+use mathlib.Core.List.List·Memᴰ.{List·Memᴰ·head as here, List·Memᴰ·tail as there}
+use Rattle.nodes.specs.Sets.{bit, has, union, meet, minus, single, with, inside, membersFrom, members, size, gather}
+use Rattle.nodes.specs.Words.{num}
+use Rattle.records.specs.declared.messages.Kind.the-variants.{Notify, Grant, Ack, Done}
+use Rattle.records.specs.Messages.{Letter}
+use Rattle.records.specs.Rounds.{compareOf, behind, ahead}
+use Rattle.records.specs.Records.{inRound}
+use Rattle.waits.specs.Waits.{Waits, inOf}
+use Rattle.waits.specs.Rows.{rowAt, laterOf, outOf, liesIn, holdsOf, waitsOf}
+use Rattle.step.specs.declared.answers.Verdict.{Verdict}
+use Rattle.step.specs.declared.answers.Verdict.the-variants.{Deadlocked, NotDeadlocked}
+use Rattle.step.specs.Step.{acked, complete, becomeFree, beCalled, onNotify, onGrant, owed, verdictOf, settle, openRound, stray, take, arrive, receive}
+use Rattle.step.specs.Letters.{letter, lettersOf}
+use Rattle.rounds.specs.Course.{put, after, Course}
+use Rattle.rounds.specs.Verdicts.{verdicts}
+
+-- Round 1 of node 0, after the messages of l, the newest first: they were sent, these are all that were, and this is what was said.
+abbrev Comes : Waits → List Letter → List Letter → List Verdict → Type 0
+Comes w l sent said = Course w 0 1 l × (after w 0 1 l .sent ≡ sent) × (verdicts w 0 1 l ≡ said)
+
+-- morning 6: 1 waits on 2, and 2 is active; a row is one less
+abbrev sixth : Waits
+sixth = waitsOf 2 (1 ∷ 1 ∷ 0b10 ∷ 0 ∷ 0 ∷ 0 ∷ 0 ∷ 0 ∷ 0 ∷ 0 ∷ 0 ∷ 0 ∷ [])
+
+sixth-comes : Comes sixth
+    (letter Done 1 0 1 ∷ letter Ack 0 1 1 ∷ letter Grant 1 0 1 ∷ letter Notify 0 1 1 ∷ [])
+    (letter Notify 0 1 1 ∷ letter Grant 1 0 1 ∷ letter Ack 0 1 1 ∷ letter Done 1 0 1 ∷ [])
+    (NotDeadlocked ∷ [])
+unfolding verdicts after put openRound receive arrive take stray settle verdictOf owed onGrant onNotify beCalled becomeFree acked complete lettersOf inRound behind ahead compareOf rowAt laterOf outOf liesIn holdsOf inOf num bit has union meet minus single with inside membersFrom members size gather
+sixth-comes = ((there (there (there (here refl))), (there (there (here refl)), (there (here refl), (here refl, tt)))), refl, refl)
+
+-- morning 7, in round 1: the GRANT is withheld, however often the NOTIFY comes
+withheld : Comes sixth
+    (letter Notify 0 1 1 ∷ letter Notify 0 1 1 ∷ [])
+    (letter Notify 0 1 1 ∷ letter Grant 1 0 1 ∷ [])
+    []
+unfolding verdicts after put openRound receive arrive take stray settle verdictOf owed onGrant onNotify beCalled becomeFree acked complete lettersOf inRound behind ahead compareOf rowAt laterOf outOf liesIn holdsOf inOf num bit has union meet minus single with inside membersFrom members size gather
+withheld = ((here refl, (here refl, tt)), refl, refl)
+
+-- morning 4: 1 waits on 2, and 2 on 1
+abbrev fourth : Waits
+fourth = waitsOf 2 (1 ∷ 1 ∷ 0b10 ∷ 0 ∷ 0 ∷ 0 ∷ 1 ∷ 1 ∷ 0b01 ∷ 0 ∷ 0 ∷ 0 ∷ [])
+
+fourth-comes : Comes fourth
+    (letter Done 1 0 1 ∷ letter Done 0 1 1 ∷ letter Notify 1 0 1 ∷ letter Notify 0 1 1 ∷ [])
+    (letter Notify 0 1 1 ∷ letter Notify 1 0 1 ∷ letter Done 0 1 1 ∷ letter Done 1 0 1 ∷ [])
+    (Deadlocked ∷ [])
+unfolding verdicts after put openRound receive arrive take stray settle verdictOf owed onGrant onNotify beCalled becomeFree acked complete lettersOf inRound behind ahead compareOf rowAt laterOf outOf liesIn holdsOf inOf num bit has union meet minus single with inside membersFrom members size gather
+fourth-comes = ((there (there (there (here refl))), (there (there (here refl)), (there (here refl), (here refl, tt)))), refl, refl)
