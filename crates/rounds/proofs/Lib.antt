@@ -16,3 +16,4 @@ pub mod Counts
 pub mod Verdicts
 pub mod OneRound
 pub mod Mornings
+pub mod Shortcuts

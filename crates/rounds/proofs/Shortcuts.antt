@@ -1,0 +1,73 @@
+-- The shortcuts that spoiled other detectors: for each a course on which it would go wrong, and what comes of it by the rules.
+-- Assumes nothing.
+use mathlib.Core.Path.{refl}
+use mathlib.Core.List.{[], _∷_}
+use Rattle.nodes.specs.Sets.{bit, has, union, meet, minus, single, with, inside, membersFrom, members, size, gather}
+use Rattle.nodes.specs.Words.{num}
+use Rattle.records.specs.declared.messages.Kind.the-variants.{Notify, Grant, Ack, Done}
+use Rattle.records.specs.Rounds.{compareOf, behind, ahead}
+use Rattle.records.specs.Records.{inRound}
+use Rattle.waits.specs.Waits.{Waits, inOf}
+use Rattle.waits.specs.Rows.{rowAt, laterOf, outOf, liesIn, holdsOf, waitsOf}
+use Rattle.step.specs.declared.answers.Verdict.the-variants.{Deadlocked, NotDeadlocked}
+use Rattle.step.specs.Step.{acked, complete, becomeFree, beCalled, onNotify, onGrant, owed, verdictOf, settle, openRound, stray, take, arrive, receive}
+use Rattle.step.specs.Letters.{letter, lettersOf}
+use Rattle.rounds.specs.Course.{put, after}
+use Rattle.rounds.specs.Verdicts.{verdicts}
+use Rattle.rounds.proofs.Mornings.{Comes, at, sixth}
+
+-- morning 9, in rows: 0 needs two of 1, 2 and 3; 1 is active, and 2 and 3 wait on 0
+abbrev ninth : Waits
+ninth = waitsOf 4 (
+    1 ∷ 2 ∷ 0b1110 ∷ 0 ∷ 0 ∷ 0
+    ∷ 0 ∷ 0 ∷ 0 ∷ 0 ∷ 0 ∷ 0
+    ∷ 1 ∷ 1 ∷ 0b0001 ∷ 0 ∷ 0 ∷ 0
+    ∷ 1 ∷ 1 ∷ 0b0001 ∷ 0 ∷ 0 ∷ 0
+    ∷ [])
+
+-- Answers counted, not remembered: the GRANT that comes twice would meet "two of three". 0 would grant to 2 and 3, and this same
+-- course would end not deadlocked.
+pub counted : Comes ninth
+    (letter Done 3 0 1 ∷ letter Done 2 0 1 ∷ letter Done 1 0 1 ∷ letter Done 0 3 1 ∷ letter Done 0 2 1 ∷ letter Ack 0 1 1
+    ∷ letter Notify 3 0 1 ∷ letter Notify 2 0 1 ∷ letter Grant 1 0 1 ∷ letter Grant 1 0 1 ∷ letter Notify 0 3 1 ∷ letter Notify 0 2 1
+    ∷ letter Notify 0 1 1 ∷ [])
+    (letter Notify 0 1 1 ∷ letter Notify 0 2 1 ∷ letter Notify 0 3 1 ∷ letter Grant 1 0 1 ∷ letter Notify 2 0 1 ∷ letter Notify 3 0 1
+    ∷ letter Ack 0 1 1 ∷ letter Done 0 2 1 ∷ letter Done 0 3 1 ∷ letter Done 1 0 1 ∷ letter Done 2 0 1 ∷ letter Done 3 0 1 ∷ [])
+    (Deadlocked ∷ [])
+unfolding verdicts after put openRound receive arrive take stray settle verdictOf owed onGrant onNotify beCalled becomeFree acked complete lettersOf inRound behind ahead compareOf rowAt laterOf outOf liesIn holdsOf inOf num bit has union meet minus single with inside membersFrom members size gather
+counted = ((at 11 refl, (at 10 refl, (at 9 refl, (at 8 refl, (at 7 refl, (at 6 refl, (at 5 refl, (at 4 refl, (at 3 refl, (at 3 refl, (at 2 refl, (at 1 refl, (at 0 refl, tt))))))))))))), refl, refl)
+
+-- DONE for the caller's second NOTIFY: it would be sent before the ACK. Delivered before the GRANT, it would end the round as
+-- deadlocked, which 0 isn't.
+pub again : Comes sixth
+    (letter Done 1 0 1 ∷ letter Ack 0 1 1 ∷ letter Grant 1 0 1 ∷ letter Notify 0 1 1 ∷ letter Notify 0 1 1 ∷ [])
+    (letter Notify 0 1 1 ∷ letter Grant 1 0 1 ∷ letter Ack 0 1 1 ∷ letter Done 1 0 1 ∷ [])
+    (NotDeadlocked ∷ [])
+unfolding verdicts after put openRound receive arrive take stray settle verdictOf owed onGrant onNotify beCalled becomeFree acked complete lettersOf inRound behind ahead compareOf rowAt laterOf outOf liesIn holdsOf inOf num bit has union meet minus single with inside membersFrom members size gather
+again = ((at 3 refl, (at 2 refl, (at 1 refl, (at 0 refl, (at 0 refl, tt))))), refl, refl)
+
+-- 0 needs both 1 and 2, 1 waits on 2, and 2 is active: GRANT may come to 1 before NOTIFY does
+abbrev early : Waits
+early = waitsOf 3 (
+    1 ∷ 2 ∷ 0b110 ∷ 0 ∷ 0 ∷ 0
+    ∷ 1 ∷ 1 ∷ 0b100 ∷ 0 ∷ 0 ∷ 0
+    ∷ 0 ∷ 0 ∷ 0 ∷ 0 ∷ 0 ∷ 0
+    ∷ [])
+
+-- Freed again by the NOTIFY that follows the freeing GRANT: 1 would send 0 the same GRANT a second time. It calls 2, and no more.
+pub freed-twice : Comes early
+    (letter Notify 0 1 1 ∷ letter Grant 2 1 1 ∷ letter Notify 0 2 1 ∷ [])
+    (letter Notify 0 1 1 ∷ letter Notify 0 2 1 ∷ letter Grant 2 0 1 ∷ letter Grant 2 1 1 ∷ letter Grant 1 0 1 ∷ letter Notify 1 2 1 ∷ [])
+    []
+unfolding verdicts after put openRound receive arrive take stray settle verdictOf owed onGrant onNotify beCalled becomeFree acked complete lettersOf inRound behind ahead compareOf rowAt laterOf outOf liesIn holdsOf inOf num bit has union meet minus single with inside membersFrom members size gather
+freed-twice = ((at 0 refl, (at 3 refl, (at 1 refl, tt))), refl, refl)
+
+-- GRANT only to nodes already called: 2 would send 1 none, as the NOTIFY to 1 is late, and neither 1 nor 0 would ever be free.
+pub only-to-called : Comes early
+    (letter Done 1 0 1 ∷ letter Done 2 1 1 ∷ letter Notify 1 2 1 ∷ letter Notify 0 1 1 ∷ letter Done 2 0 1 ∷ letter Ack 1 2 1
+    ∷ letter Ack 0 1 1 ∷ letter Grant 1 0 1 ∷ letter Ack 0 2 1 ∷ letter Grant 2 1 1 ∷ letter Grant 2 0 1 ∷ letter Notify 0 2 1 ∷ [])
+    (letter Notify 0 1 1 ∷ letter Notify 0 2 1 ∷ letter Grant 2 0 1 ∷ letter Grant 2 1 1 ∷ letter Ack 0 2 1 ∷ letter Grant 1 0 1
+    ∷ letter Ack 0 1 1 ∷ letter Ack 1 2 1 ∷ letter Done 2 0 1 ∷ letter Notify 1 2 1 ∷ letter Done 2 1 1 ∷ letter Done 1 0 1 ∷ [])
+    (NotDeadlocked ∷ [])
+unfolding verdicts after put openRound receive arrive take stray settle verdictOf owed onGrant onNotify beCalled becomeFree acked complete lettersOf inRound behind ahead compareOf rowAt laterOf outOf liesIn holdsOf inOf num bit has union meet minus single with inside membersFrom members size gather
+only-to-called = ((at 11 refl, (at 10 refl, (at 9 refl, (at 0 refl, (at 8 refl, (at 7 refl, (at 6 refl, (at 5 refl, (at 4 refl, (at 3 refl, (at 2 refl, (at 1 refl, tt)))))))))))), refl, refl)
