@@ -25,8 +25,8 @@ ninth = waitsOf 4 (
     ∷ 1 ∷ 1 ∷ 0b0001 ∷ 0 ∷ 0 ∷ 0
     ∷ [])
 
--- Answers counted, not remembered: the GRANT that comes twice would meet "two of three". 0 would grant to 2 and 3, and this same
--- course would end not deadlocked.
+-- Counting answers instead of remembering who gave them: the GRANT that comes twice would meet "two of three". 0 would grant to 2
+-- and 3, and this same course would end not deadlocked.
 pub counted : Comes ninth
     (letter Done 3 0 1 ∷ letter Done 2 0 1 ∷ letter Done 1 0 1 ∷ letter Done 0 3 1 ∷ letter Done 0 2 1 ∷ letter Ack 0 1 1
     ∷ letter Notify 3 0 1 ∷ letter Notify 2 0 1 ∷ letter Grant 1 0 1 ∷ letter Grant 1 0 1 ∷ letter Notify 0 3 1 ∷ letter Notify 0 2 1
@@ -37,8 +37,8 @@ pub counted : Comes ninth
 unfolding verdicts after put openRound receive arrive take stray settle verdictOf owed onGrant onNotify beCalled becomeFree acked complete lettersOf inRound behind ahead compareOf rowAt laterOf outOf liesIn holdsOf inOf num bit has union meet minus single with inside membersFrom members size gather
 counted = ((at 11 refl, (at 10 refl, (at 9 refl, (at 8 refl, (at 7 refl, (at 6 refl, (at 5 refl, (at 4 refl, (at 3 refl, (at 3 refl, (at 2 refl, (at 1 refl, (at 0 refl, tt))))))))))))), refl, refl)
 
--- DONE for the caller's second NOTIFY: it would be sent before the ACK. Delivered before the GRANT, it would end the round as
--- deadlocked, which 0 isn't.
+-- DONE for a repeated NOTIFY from the caller: it would be sent at once, before the ACK. Delivered before the GRANT, it would end the
+-- round as deadlocked, which 0 isn't.
 pub again : Comes sixth
     (letter Done 1 0 1 ∷ letter Ack 0 1 1 ∷ letter Grant 1 0 1 ∷ letter Notify 0 1 1 ∷ letter Notify 0 1 1 ∷ [])
     (letter Notify 0 1 1 ∷ letter Grant 1 0 1 ∷ letter Ack 0 1 1 ∷ letter Done 1 0 1 ∷ [])
@@ -54,7 +54,8 @@ early = waitsOf 3 (
     ∷ 0 ∷ 0 ∷ 0 ∷ 0 ∷ 0 ∷ 0
     ∷ [])
 
--- Freed again by the NOTIFY that follows the freeing GRANT: 1 would send 0 the same GRANT a second time. It calls 2, and no more.
+-- Freeing a node again when NOTIFY follows the GRANT that freed it: 1 would send 0 its GRANT a second time. All that it sends
+-- then is NOTIFY to 2.
 pub freed-twice : Comes early
     (letter Notify 0 1 1 ∷ letter Grant 2 1 1 ∷ letter Notify 0 2 1 ∷ [])
     (letter Notify 0 1 1 ∷ letter Notify 0 2 1 ∷ letter Grant 2 0 1 ∷ letter Grant 2 1 1 ∷ letter Grant 1 0 1 ∷ letter Notify 1 2 1 ∷ [])
@@ -62,7 +63,7 @@ pub freed-twice : Comes early
 unfolding verdicts after put openRound receive arrive take stray settle verdictOf owed onGrant onNotify beCalled becomeFree acked complete lettersOf inRound behind ahead compareOf rowAt laterOf outOf liesIn holdsOf inOf num bit has union meet minus single with inside membersFrom members size gather
 freed-twice = ((at 0 refl, (at 3 refl, (at 1 refl, tt))), refl, refl)
 
--- GRANT only to nodes already called: 2 would send 1 none, as the NOTIFY to 1 is late, and neither 1 nor 0 would ever be free.
+-- Sending GRANT only to nodes already called: 2 would send none to 1, whose NOTIFY is late, and neither 1 nor 0 would ever be free.
 pub only-to-called : Comes early
     (letter Done 1 0 1 ∷ letter Done 2 1 1 ∷ letter Notify 1 2 1 ∷ letter Notify 0 1 1 ∷ letter Done 2 0 1 ∷ letter Ack 1 2 1
     ∷ letter Ack 0 1 1 ∷ letter Grant 1 0 1 ∷ letter Ack 0 2 1 ∷ letter Grant 2 1 1 ∷ letter Grant 2 0 1 ∷ letter Notify 0 2 1 ∷ [])
