@@ -33,8 +33,8 @@ order-none f none = record {
   behind = tt;
 }
 
--- through whom a node came to be so is so too, and stands in every part of the list that has the node
-pub behind-in : (f : ℕ → Why) (l : List ℕ) → Behind f l → (i j : ℕ) → List·Memᴰ i l → In j (senderOf (f i)) → List·Memᴰ j l
+-- wherever a node stands in the list, so does the one through which it came to be so
+behind-in : (f : ℕ → Why) (l : List ℕ) → Behind f l → (i j : ℕ) → List·Memᴰ i l → In j (senderOf (f i)) → List·Memᴰ j l
 behind-in f (x ∷ l) b i j (here e) m = there (b .0 j (subst (λ (y : ℕ). In j (senderOf (f y))) e m))
 behind-in f (x ∷ l) b i j (there n) m = there (behind-in f l (b .1) i j n m)
 

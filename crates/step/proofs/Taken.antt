@@ -1,6 +1,6 @@
 -- What a taken message leaves of a record, whatever it says: who called and who freed the node stays once it is so, and nobody is
 -- marked but the sender. Assumes nothing.
-use mathlib.Core.Path.{_≡_, refl, sym, _∙_, subst}
+use mathlib.Core.Path.{_≡_, refl, sym, ap, _∙_, subst}
 use mathlib.Core.Bool.{Bool, true, false, not}
 use Prim.Native.Nat.{ℕ}
 use borrow.Author.Tests.{not-true}
@@ -45,30 +45,22 @@ freed-had Ack by s = refl
 freed-had Done by s = refl
 
 module _ (o : Seen) (t : State) where
-  -- being called: through whom is what is new, so it wasn't the node itself unless it says so
+  -- being called: through whom is new, and it isn't the node itself
   module _ (by : Why) (c : called t ≡ false) (other : byItself by ≡ false) where
+    newly-called : (s : State) → s .round ≡ t .round → s .call ≡ by → ((k : Kind) → hadOf k s ≡ hadOf k t) → (free t ≡ true → s .freed ≡ t .freed) → Follows t s
+    newly-called s r b h f = record {
+      round = r;
+      had = h;
+      call = λ g. absurd (not-both g c);
+      freed = f;
+      opener = λ g. absurd (not-both (ap byItself (sym b) ∙ g) other);
+    }
+
     calls-follow : (a f : Bool) → active o ≡ a → free t ≡ f → Follows t (beCalled o by t .state)
-    calls-follow false f d e = moves-as (called-waiting o t by d) (record {
-      round = refl;
-      had = λ k. call-had k by t;
-      call = λ g. absurd (not-both g c);
-      freed = λ g. refl;
-      opener = λ g. absurd (not-both g other);
-    })
-    calls-follow true true d e = moves-as (called-again o t by d e) (record {
-      round = refl;
-      had = λ k. call-had k by t;
-      call = λ g. absurd (not-both g c);
-      freed = λ g. refl;
-      opener = λ g. absurd (not-both g other);
-    })
-    calls-follow true false d e = moves-as (called-active o t by d e) (record {
-      round = refl;
-      had = λ k. freed-had k Itself (withCall by t) ∙ call-had k by t;
-      call = λ g. absurd (not-both g c);
-      freed = λ g. absurd (not-both g e);
-      opener = λ g. absurd (not-both g other);
-    })
+    calls-follow false f d e = moves-as (called-waiting o t by d) (newly-called _ refl refl (λ k. call-had k by t) (λ g. refl))
+    calls-follow true true d e = moves-as (called-again o t by d e) (newly-called _ refl refl (λ k. call-had k by t) (λ g. refl))
+    calls-follow true false d e =
+        moves-as (called-active o t by d e) (newly-called _ refl refl (λ k. freed-had k Itself (withCall by t) ∙ call-had k by t) (λ g. absurd (not-both g e)))
 
   notify-follows : (a : ℕ) (b : Bool) → called t ≡ b → Follows t (onNotify o a t .state)
   notify-follows a true e = moves-as (notify-again o t a e) (itself-follows t)
