@@ -80,17 +80,13 @@ unfolding verdicts after put openRound receive arrive take stray settle verdictO
 fourth-comes = ((at 3 refl, (at 2 refl, (at 1 refl, (at 0 refl, tt)))), refl, refl)
 
 -- both graphs are accepted
-sixth-accepted : checkOf 2 sixthRows ≡ Accepted
+accepted : (checkOf 2 sixthRows ≡ Accepted) × (checkOf 2 fourthRows ≡ Accepted)
 unfolding checkOf strangeCount wrongCount strangeKind strangeMember waitsOnItself wrongThreshold extraSet badSets manyEdges edgesTo edges rowAt laterOf outOf liesIn num bit has union meet minus single with below inside membersFrom members size
-sixth-accepted = refl
-
-fourth-accepted : checkOf 2 fourthRows ≡ Accepted
-unfolding checkOf strangeCount wrongCount strangeKind strangeMember waitsOnItself wrongThreshold extraSet badSets manyEdges edgesTo edges rowAt laterOf outOf liesIn num bit has union meet minus single with below inside membersFrom members size
-fourth-accepted = refl
+accepted = (refl, refl)
 
 -- so 1 isn't deadlocked on the sixth morning, and is on the fourth, since a round said so
 pub sixth-right : Dead sixth 0 → ⊥
-sixth-right = comes-right sixth (accepted-lawful 2 sixthRows sixth-accepted) (lit< tt) _ _ NotDeadlocked sixth-comes
+sixth-right = comes-right sixth (accepted-lawful 2 sixthRows (accepted .0)) (lit< tt) _ _ NotDeadlocked sixth-comes
 
 pub fourth-right : Dead fourth 0
-fourth-right = comes-right fourth (accepted-lawful 2 fourthRows fourth-accepted) (lit< tt) _ _ Deadlocked fourth-comes
+fourth-right = comes-right fourth (accepted-lawful 2 fourthRows (accepted .1)) (lit< tt) _ _ Deadlocked fourth-comes

@@ -59,7 +59,7 @@ module _ (w : Waits) (lawful : Lawful w) (s : ℕ) (node : s < w .nodes) (round 
     free-exactly : (i : ℕ) → (free (now .records i) ≡ true) ↔ FreedFrom w s i
     free-exactly = free-freed (good .invariant) end initiator-called
 
-    -- those of the nodes called and not free that a member waits on and that grant from outside are free
+    -- a called node outside the list of those called and not free is free
     granting : (j : ℕ) → In j (outside w (heldIn w now)) → called (now .records j) ≡ true → free (now .records j) ≡ true
     granting j o c = elim (true-or-false (free (now .records j))) [
       | inl f ↦ f
@@ -117,14 +117,14 @@ module _ (w : Waits) (lawful : Lawful w) (s : ℕ) (node : s < w .nodes) (round 
         Memᴰ·cast (ap (letter (m .kind) (m .from) (m .to)) (p .0)) (good .having .delivered (m .to) (h .0) (m .kind) (m .from) (h .1))
 
   -- ---- verdicts
-  verdict-right : (e : Bool) → ended w s now ≡ e → (v : Verdict) → List·Memᴰ v (cond e (byFree (free (now .records s))) []) → Right w s v
-  verdict-right true e v m = right-at-end e (free (now .records s)) refl v m
-  verdict-right false e v m = absurd (elim m [ ])
+  right-verdict : (e : Bool) → ended w s now ≡ e → (v : Verdict) → List·Memᴰ v (cond e (byFree (free (now .records s))) []) → Right w s v
+  right-verdict true e v m = right-at-end e (free (now .records s)) refl v m
+  right-verdict false e v m = absurd (elim m [ ])
 
-  one-verdict : (e f : Bool) → length (cond e (byFree f) []) ≡ cond e 1 0
-  one-verdict true true = refl
-  one-verdict true false = refl
-  one-verdict false f = refl
+  one-or-none : (e f : Bool) → length (cond e (byFree f) []) ≡ cond e 1 0
+  one-or-none true true = refl
+  one-or-none true false = refl
+  one-or-none false f = refl
 
   -- ---- messages
   one-way : (m n : Letter) → List·Memᴰ m (now .sent) → List·Memᴰ n (now .sent) → wayOf m ≡ wayOf n → m ≡ n
@@ -149,8 +149,8 @@ module _ (w : Waits) (lawful : Lawful w) (s : ℕ) (node : s < w .nodes) (round 
   one-round = record {
     free-rightly = free-rightly;
     held-passes = λ end f. member-passes end s (held end f);
-    verdict-right = λ v m. verdict-right (ended w s now) refl v (subst (λ (x : List Verdict). List·Memᴰ v x) (verdicts-are w lawful s node round l course) m);
-    one-verdict = ap (λ (x : List Verdict). length x) (verdicts-are w lawful s node round l course) ∙ one-verdict (ended w s now) (free (now .records s));
+    verdict-right = λ v m. right-verdict (ended w s now) refl v (subst (λ (x : List Verdict). List·Memᴰ v x) (verdicts-are w lawful s node round l course) m);
+    one-verdict = ap (λ (x : List Verdict). length x) (verdicts-are w lawful s node round l course) ∙ one-or-none (ended w s now) (free (now .records s));
     sent-once = once-map wayOf (now .sent) one-way (good .sending .once);
     at-most-four = four-an-edge (good .invariant) (good .sending);
     it-ends = λ all. complete-all (good .invariant) (drained all) s initiator-called;
