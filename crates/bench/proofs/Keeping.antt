@@ -94,8 +94,12 @@ unfolding strangeSent
 sent-later n old highest m later e =
     ap₂ _||_ (or-left-false (strangeMessage n m) _ e) (later (m .round .0) (or-right-false (strangeMessage n m) _ e))
 
+-- two numbers that differ
+pub apart : (i j : ℕ) → (j ≡ i → ⊥) → (i < j) ⊎ (j < i)
+apart i j d = elim (decLt i j) [ yes l ↦ inl l | no l ↦ inr (omega (arith, d)) ]
+
 -- ---- the messages sent, with the new ones
-joined : (l new : List ℕ) (sent : ℕ) → sent + length new ≤ length l → take (sent + length new) (sets l sent new) ≡ take sent l ++ new
+pub joined : (l new : List ℕ) (sent : ℕ) → sent + length new ≤ length l → take (sent + length new) (sets l sent new) ≡ take sent l ++ new
 joined l new sent h =
     ap (take (sent + length new)) (sets-eq new l sent h)
     ∙ take-at (take sent l ++ new) (drop (sent + length new) l) (sent + length new)
@@ -117,9 +121,6 @@ module _ (n : ℕ) (rows : List ℕ) (b : Bench) (s : Sound n rows b) (highest i
     | no d ↦ subst (λ (x : State). strangeKept n highest x ≡ false) (sym (record-kept (b .records) i j (out .state) (apart i j d)))
         (kept-later n (b .highest) highest (stateAt (b .records) j) later (s .kept j h))
   ]
-    where
-      apart : (i j : ℕ) → (j ≡ i → ⊥) → (i < j) ⊎ (j < i)
-      apart i j d = elim (decLt i j) [ yes l ↦ inl l | no l ↦ inr (omega (arith, d)) ]
 
   next-listed : b .sent + length new ≤ room b → strangeMessages n highest (take (b .sent + length new) (sets (b .messages) (b .sent) (map numberOf new))) ≡ false
   unfolding strangeMessages

@@ -1,9 +1,10 @@
 -- The state of a bench, as it stands in lent lists of numbers. Assumes nothing.
 use mathlib.Core.List.{List}
-use Prim.Native.Nat.{ℕ, min}
-use lib.ListN.{length}
+use Prim.Native.Nat.{ℕ, _*_, min}
+use lib.ListN.{length, replicate}
 use Rattle.waits.specs.declared.numbers.Refusal.{Refusal}
 use Rattle.step.specs.declared.answers.Answer.{Answer}
+use Rattle.lent.specs.Kept.{recordSize}
 
 -- Every node's record, every message ever sent, numbered from 0, how many these are, and the highest round opened so far. The list of
 -- messages may have places past those sent.
@@ -15,6 +16,11 @@ pub record Bench : Type 0 where
 
 abbrev pub bench : List ℕ → List ℕ → ℕ → ℕ → Bench
 bench records messages sent highest = record { records = records; messages = messages; sent = sent; highest = highest }
+
+-- A bench on which nothing has happened: every record is blank in round 0, nothing is sent and no round opened. The places for
+-- messages may have anything in them.
+abbrev pub fresh : ℕ → List ℕ → Bench
+fresh n messages = bench (replicate (n * recordSize) 0) messages 0 0
 
 -- the most messages that a bench holds
 abbrev pub mostRoom : ℕ

@@ -38,7 +38,7 @@ module _ (w : Waits) (law : Lawful w) (i : ℕ) (h : i < w .nodes) where
   stuck-no : has (stuck w) i ≡ false → Deadlocked w i → ⊥
   stuck-no e d = not-both (in-has (stuck w) i (stuck-iff w law i .1 (h, d))) e
 
-  reached : (j : ℕ) → In j (with (ahead w i) i) ↔ Reachable w i j
+  pub reached : (j : ℕ) → In j (with (ahead w i) i) ↔ Reachable w i j
   reached j = (
     λ m. ⊎-elim (λ (a : In j (ahead w i)). inr (ahead-iff w law i h j .0 a)) (λ (q : j ≡ i). inl (sym q)) (in-with (ahead w i) i j .0 m),
     λ r. in-with (ahead w i) i j .1 (⊎-elim (λ (q : i ≡ j). inr (sym q)) (λ (p : Path w i j). inl (ahead-iff w law i h j .1 p)) r),
@@ -53,7 +53,7 @@ module _ (w : Waits) (law : Lawful w) (i : ℕ) (h : i < w .nodes) where
   )
   in-knot false e j = (λ m. absurd (let z = bit-empty j in omega arith), λ t. absurd (stuck-no e (t .0)))
 
-  knot-iff : (j : ℕ) → In j (knot w i) ↔ (Deadlocked w i × Deadlocked w j × Reachable w i j)
+  pub knot-iff : (j : ℕ) → In j (knot w i) ↔ (Deadlocked w i × Deadlocked w j × Reachable w i j)
   unfolding knot
   knot-iff = in-knot (has (stuck w) i) refl
 

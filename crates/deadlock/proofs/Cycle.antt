@@ -13,26 +13,15 @@ use Rattle.waits.specs.Deadlocked.{Reduction, Deadlocked}
 use Rattle.waits.specs.Deadlocked.Path.{edge, then}
 use Rattle.waits.specs.Rows.{rowAt, laterOf, outOf, liesIn, holdsOf, waitsOf}
 use Rattle.waits.specs.Numbers.{strangeCount, wrongCount, strangeKind, strangeMember, waitsOnItself, wrongThreshold, extraSet, badSets, manyEdges, checkOf}
+use Rattle.waits.specs.Mornings.{firstRows}
 use Rattle.deadlock.specs.Ring.{OnRing}
 
--- f1 = 4 ∨ 2, f2 = 3 ∧ 4 ∧ 5, f3 = 2 ∨ (6 ∧ 7), f4 = 7, f5 = 1 ∨ 7, f6 active, f7 = 6; a row is one less
-abbrev pub firstMorning : List ℕ
-firstMorning =
-    2 ∷ 0 ∷ 0b000_1000 ∷ 0b000_0010 ∷ 0 ∷ 0
-    ∷ 2 ∷ 0 ∷ 0b001_1100 ∷ 0 ∷ 0 ∷ 0
-    ∷ 2 ∷ 0 ∷ 0b000_0010 ∷ 0b110_0000 ∷ 0 ∷ 0
-    ∷ 1 ∷ 1 ∷ 0b100_0000 ∷ 0 ∷ 0 ∷ 0
-    ∷ 2 ∷ 0 ∷ 0b000_0001 ∷ 0b100_0000 ∷ 0 ∷ 0
-    ∷ 0 ∷ 0 ∷ 0 ∷ 0 ∷ 0 ∷ 0
-    ∷ 1 ∷ 1 ∷ 0b010_0000 ∷ 0 ∷ 0 ∷ 0
-    ∷ []
-
-accepted : checkOf 7 firstMorning ≡ Accepted
+accepted : checkOf 7 firstRows ≡ Accepted
 unfolding checkOf strangeCount wrongCount strangeKind strangeMember waitsOnItself wrongThreshold extraSet badSets manyEdges edgesTo edges rowAt laterOf outOf liesIn num bit has union meet minus single with below inside membersFrom members size
 accepted = refl
 
 -- 2 waits on 3, and 3 on 2
-cycle : OnRing (waitsOf 7 firstMorning) 1
+cycle : OnRing (waitsOf 7 firstRows) 1
 unfolding rowAt laterOf outOf num bit union
 cycle = then {j = 2} refl (edge refl)
 
@@ -40,7 +29,7 @@ cycle = then {j = 2} refl (edge refl)
 abbrev order : List ℕ
 order = 0 ∷ 1 ∷ 2 ∷ 4 ∷ 3 ∷ 6 ∷ 5 ∷ []
 
-freed-in-turn : Reduction (waitsOf 7 firstMorning) order
+freed-in-turn : Reduction (waitsOf 7 firstRows) order
 unfolding rowAt holdsOf liesIn num bit union meet inside membersFrom members size single with setOf
 freed-in-turn =
     (lit< tt, refl, (lit< tt, refl, (lit< tt, refl, (lit< tt, refl, (lit< tt, refl, (lit< tt, refl, (lit< tt, refl, tt)))))))
@@ -56,5 +45,5 @@ everybody (suc (suc (suc (suc (suc (suc zero)))))) h = there (there (there (ther
 everybody (suc (suc (suc (suc (suc (suc (suc i))))))) h = absurd (omega arith)
 
 -- Theorem: an accepted graph has a cycle, and nobody in it is deadlocked.
-pub cycle-no-deadlock : (checkOf 7 firstMorning ≡ Accepted) × OnRing (waitsOf 7 firstMorning) 1 × ((i : ℕ) → i < 7 → Deadlocked (waitsOf 7 firstMorning) i → ⊥)
+pub cycle-no-deadlock : (checkOf 7 firstRows ≡ Accepted) × OnRing (waitsOf 7 firstRows) 1 × ((i : ℕ) → i < 7 → Deadlocked (waitsOf 7 firstRows) i → ⊥)
 cycle-no-deadlock = (accepted, cycle, λ i h d. d order freed-in-turn (everybody i h))

@@ -7,7 +7,7 @@ use mathlib.Core.List.{List, [], _∷_, List·Memᴰ}
 use Prim.Native.Nat.{ℕ, _<_}
 use native.Mathlib.Omega.{arith}
 use Rattle.nodes.specs.Sets.{bit, In, Inside, with, below, keep, setOf}
-use Rattle.nodes.proofs.Bit.{bit-empty, empty-inside, bit-with-same, in-or-out, in-with, in-below, in-minus, inside-in, inside-member, same-members, keep-grows, list-in, in-list}
+use Rattle.nodes.proofs.Bit.{empty-inside, bit-with-same, in-or-out, in-with, in-below, in-minus, inside-in, inside-member, same-members, keep-grows, list-in, in-list}
 use Rattle.waits.specs.Waits.{Waits, Lawful}
 use Rattle.waits.specs.Deadlocked.{Reduction, Deadlocked}
 use Rattle.deadlock.specs.Sweeps.{freeing, freed, stuck}

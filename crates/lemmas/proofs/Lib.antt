@@ -5,3 +5,4 @@ pub mod Lists
 pub mod Stores
 pub mod Once
 pub mod Each
+pub mod Those

@@ -1,6 +1,6 @@
--- Lists and the numbers below one: a test of some of them, a sum, what it means to ascend and to have nothing twice. Assumes
--- nothing.
-use mathlib.Core.Bool.{Bool, false, _||_}
+-- Lists and the numbers below one: a test of some of them, those that meet one, a sum, what it means to ascend and to have
+-- nothing twice. Assumes nothing.
+use mathlib.Core.Bool.{Bool, false, cond, _||_}
 use mathlib.Core.List.{List, [], _∷_, List·Memᴰ}
 use Prim.Native.Nat.{ℕ, zero, suc, _+_, _<_}
 
@@ -13,6 +13,11 @@ anyOf p (a ∷ l) = p a || anyOf p l
 abbrev pub anyBelow : (ℕ → Bool) → ℕ → Bool
 anyBelow p zero = false
 anyBelow p (suc n) = anyBelow p n || p n
+
+-- those of the list that meet the test, in their order
+abbrev pub those : {A : Type 0} → (A → Bool) → List A → List A
+those p [] = []
+those p (a ∷ l) = cond (p a) (a ∷ those p l) (those p l)
 
 -- the sum of f over the list
 abbrev pub total : {A : Type 0} → (A → ℕ) → List A → ℕ

@@ -1,13 +1,14 @@
 -- What the layers above use of rounds: which exist, and how two of them stand. Assumes nothing.
-use mathlib.Core.Path.{_≡_, refl, ap, ap₂, _∙_}
-use mathlib.Core.Bool.{Bool, true, false, cond, _||_}
+use mathlib.Core.Path.{_≡_, refl, sym, ap, ap₂, _∙_}
+use mathlib.Core.Bool.{Bool, true, false, cond, not, _||_}
+use mathlib.Core.Logic.{_↔_}
 use Prim.Native.Nat.{ℕ, _≤_, _<_}
 use native.Mathlib.Omega.{arith}
 use lib.Dec.{eqb, ltb}
-use borrow.Author.Tests.{ltb-true, ltb-false, le-ltb, eqb-false, ne-eqb}
+use borrow.Author.Tests.{not-false, lt-ltb, ltb-true, ltb-false, le-ltb, eqb-false, ne-eqb}
 use Rattle.lemmas.proofs.Tests.{or-left-false, or-right-false}
 use Rattle.records.specs.declared.rounds.Compared.the-variants.{Behind, Same, Ahead}
-use Rattle.records.specs.Rounds.{lastRound, compareOf, isAhead, behind, ahead, noRound}
+use Rattle.records.specs.Rounds.{lastRound, compareOf, isBehind, isAhead, behind, ahead, noRound, cannotOpen}
 use Rattle.records.specs.Records.{State, blankOf, inRound}
 
 -- a round is ahead exactly if it is the higher one
@@ -24,12 +25,28 @@ by-test round own false e = ap (λ (b : Bool). isAhead (cond b Behind (cond (ltb
 higher : (round own : ℕ) → ahead round own ≡ ltb own round
 higher round own = by-test round own (ltb round own) refl
 
+-- and behind exactly if it is the lower one
+pub lower : (round own : ℕ) → behind round own ≡ ltb round own
+unfolding behind compareOf
+lower round own = go (ltb round own) (ltb own round)
+  where
+    go : (p q : Bool) → isBehind (cond p Behind (cond q Ahead Same)) ≡ p
+    go true q = refl
+    go false true = refl
+    go false false = refl
+
+-- Theorem: rounds are compared as numbers.
+pub behind-iff : (round own : ℕ) → (behind round own ≡ true) ↔ (round < own)
+behind-iff round own = (λ e. ltb-true round own (sym (lower round own) ∙ e), λ h. lower round own ∙ lt-ltb round own h)
+
+pub ahead-iff : (round own : ℕ) → (ahead round own ≡ true) ↔ (own < round)
+ahead-iff round own = (λ e. ltb-true own round (sym (higher round own) ∙ e), λ h. higher round own ∙ lt-ltb own round h)
+
 pub not-ahead-itself : (round : ℕ) → ahead round round ≡ false
 not-ahead-itself round = higher round round ∙ le-ltb round round (omega arith)
 
 pub not-behind-itself : (round : ℕ) → behind round round ≡ false
-unfolding behind compareOf
-not-behind-itself round = rw (le-ltb round round (omega arith)) refl
+not-behind-itself round = lower round round ∙ le-ltb round round (omega arith)
 
 -- a round that isn't above the highest so far isn't above a higher one
 pub not-ahead-later : (round own later : ℕ) → ahead round own ≡ false → ahead later own ≡ true → ahead round later ≡ false
@@ -49,6 +66,17 @@ pub range-round : (round : ℕ) → 1 ≤ round → round ≤ lastRound → noRo
 unfolding noRound
 range-round round h l = ap₂ _||_ (ne-eqb round 0 (λ q. omega arith)) (le-ltb lastRound round l)
 
+-- Theorem: a round can be opened exactly if it is above the highest so far and not past the last.
+pub opens-iff : (own round : ℕ) → (cannotOpen own round ≡ false) ↔ ((own < round) × (round ≤ lastRound))
+unfolding cannotOpen
+opens-iff own round = (
+  λ e. (
+    ahead-iff round own .0 (not-false (ahead round own) (or-right-false (noRound round) _ e)),
+    round-range round (or-left-false (noRound round) _ e) .1,
+  ),
+  λ h. ap₂ _||_ (range-round round (omega (arith, h .0)) (h .1)) (ap not (ahead-iff round own .1 (h .0))),
+)
+
 -- ---- the round of a record as it stands in a message's round
 module _ (m : ℕ) (r : State) where
   in-round-as : (b : Bool) → ahead m (r .round) ≡ b → inRound m r .round ≡ cond b m (r .round)
@@ -60,6 +88,22 @@ module _ (m : ℕ) (r : State) where
   pub in-round-stays : r .round ≡ m → inRound m r ≡ r
   unfolding inRound
   in-round-stays e = ap (λ (b : Bool). cond b (blankOf m) r) (ap (ahead m) e ∙ not-ahead-itself m)
+
+  -- it is in the message's round, unless that is behind
+  pub in-round-at : behind m (r .round) ≡ false → inRound m r .round ≡ m
+  in-round-at e = at (ahead m (r .round)) refl
+    where
+      above : r .round ≤ m
+      above = ltb-false m (r .round) (sym (lower m (r .round)) ∙ e)
+
+      at : (b : Bool) → ahead m (r .round) ≡ b → inRound m r .round ≡ m
+      at true f = in-round-as true f
+      at false f = in-round-as false f ∙ (let h = ltb-false (r .round) m (sym (higher m (r .round)) ∙ f) in omega (arith, above))
+
+  -- one that is in a lower round is blank
+  pub in-round-blank : r .round < m → inRound m r ≡ blankOf m
+  unfolding inRound
+  in-round-blank h = ap (λ (b : Bool). cond b (blankOf m) r) (ahead-iff m (r .round) .1 h)
 
   -- it exists, if the message's does
   exists-as : (b : Bool) → ahead m (r .round) ≡ b → noRound m ≡ false → r .round ≤ lastRound → noRound (inRound m r .round) ≡ false

@@ -67,7 +67,7 @@ module _ {w : Waits} {s round : ℕ} {c : Stage} (v : Invariant w s round (c .re
   stays : inRound (m .round) r ≡ r
   stays = in-round-stays (m .round) r same-round
 
-  fits : stray o r m ≡ false
+  pub fits : stray o r m ≡ false
   fits = not-stray v m (said .1) (said .2)
 
   arrived : (b : Bool) → has (hadOf (m .kind) r) (m .from) ≡ b → reply w c m ≡ cond b (still r Repeat) (take o r m)

@@ -31,7 +31,7 @@ Complete w st i = complete (seenIn w i) (st i) ≡ true
 abbrev pub Acked : Waits → (ℕ → State) → ℕ → Type 0
 Acked w st i = acked (seenIn w i) (st i) ≡ true
 
-reduction-node : (w : Waits) (l : List ℕ) (i : ℕ) → Reduction w l → List·Memᴰ i l → i < w .nodes
+pub reduction-node : (w : Waits) (l : List ℕ) (i : ℕ) → Reduction w l → List·Memᴰ i l → i < w .nodes
 reduction-node w (x ∷ l) i r (here e) = subst (λ (y : ℕ). y < w .nodes) (sym e) (r .0)
 reduction-node w (x ∷ l) i r (there m) = reduction-node w l i (r .2) m
 

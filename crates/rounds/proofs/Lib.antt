@@ -1,4 +1,4 @@
--- That a round is right: the theorems stand in OneRound.
+-- That a round is right, and that many are: the theorems stand in OneRound and ManyRounds.
 pub mod Members
 pub mod Put
 pub mod Orders
@@ -15,5 +15,12 @@ pub mod Sets
 pub mod Counts
 pub mod Verdicts
 pub mod OneRound
+pub mod CanEnd
 pub mod Mornings
 pub mod Shortcuts
+pub mod OldRounds
+pub mod Effects
+pub mod Running
+pub mod Told
+pub mod Histories
+pub mod ManyRounds

@@ -16,6 +16,7 @@ use Rattle.waits.specs.Waits.{Waits, Lawful, inOf, edgesTo, edges}
 use Rattle.waits.specs.Deadlocked.{Deadlocked as Dead}
 use Rattle.waits.specs.Rows.{rowAt, laterOf, outOf, liesIn, holdsOf, waitsOf}
 use Rattle.waits.specs.Numbers.{strangeCount, wrongCount, strangeKind, strangeMember, waitsOnItself, wrongThreshold, extraSet, badSets, manyEdges, checkOf}
+use Rattle.waits.specs.Mornings.{fourthRows, sixthRows}
 use Rattle.waits.proofs.Lawful.{accepted-lawful}
 use Rattle.step.specs.declared.answers.Verdict.{Verdict}
 use Rattle.step.specs.declared.answers.Verdict.the-variants.{Deadlocked, NotDeadlocked}
@@ -43,10 +44,7 @@ pub at : (k : ℕ) {m : Letter} {l : List Letter} → Stands k m l → List·Mem
 at zero {l = x ∷ l} e = here e
 at (suc k) {l = x ∷ l} e = there (at k e)
 
--- morning 6: 1 waits on 2, and 2 is active; a row is one less
-abbrev sixthRows : List ℕ
-sixthRows = 1 ∷ 1 ∷ 0b10 ∷ 0 ∷ 0 ∷ 0 ∷ 0 ∷ 0 ∷ 0 ∷ 0 ∷ 0 ∷ 0 ∷ []
-
+-- morning 6: 1 waits on 2, and 2 is active
 abbrev pub sixth : Waits
 sixth = waitsOf 2 sixthRows
 
@@ -66,9 +64,6 @@ unfolding verdicts after put openRound receive arrive take stray settle verdictO
 withheld = ((at 0 refl, (at 0 refl, tt)), refl, refl)
 
 -- morning 4: 1 waits on 2, and 2 on 1
-abbrev fourthRows : List ℕ
-fourthRows = 1 ∷ 1 ∷ 0b10 ∷ 0 ∷ 0 ∷ 0 ∷ 1 ∷ 1 ∷ 0b01 ∷ 0 ∷ 0 ∷ 0 ∷ []
-
 abbrev fourth : Waits
 fourth = waitsOf 2 fourthRows
 

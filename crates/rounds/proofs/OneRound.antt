@@ -24,7 +24,7 @@ use Rattle.step.specs.Step.{Outcome}
 use Rattle.step.specs.Letters.{letter}
 use Rattle.step.proofs.Taken.{take-answer}
 use Rattle.rounds.specs.Course.{Stage, reply, after, Course, wayOf, AllDelivered, ended}
-use Rattle.rounds.specs.Verdicts.{verdicts, Right}
+use Rattle.rounds.specs.Verdicts.{Right}
 use Rattle.rounds.specs.Ends.{calledIn, freeIn, heldIn, FreedFrom, leaving, entering}
 use Rattle.rounds.specs.OneRound.{OneRound}
 use Rattle.rounds.proofs.Members.{itself-happened}

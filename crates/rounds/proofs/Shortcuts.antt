@@ -9,6 +9,7 @@ use Rattle.records.specs.Rounds.{compareOf, behind, ahead}
 use Rattle.records.specs.Records.{inRound}
 use Rattle.waits.specs.Waits.{Waits, inOf}
 use Rattle.waits.specs.Rows.{rowAt, laterOf, outOf, liesIn, holdsOf, waitsOf}
+use Rattle.waits.specs.Mornings.{ninthRows}
 use Rattle.step.specs.declared.answers.Verdict.the-variants.{Deadlocked, NotDeadlocked}
 use Rattle.step.specs.Step.{acked, complete, becomeFree, beCalled, onNotify, onGrant, owed, verdictOf, settle, openRound, stray, take, arrive, receive}
 use Rattle.step.specs.Letters.{letter, lettersOf}
@@ -16,14 +17,9 @@ use Rattle.rounds.specs.Course.{put, after}
 use Rattle.rounds.specs.Verdicts.{verdicts}
 use Rattle.rounds.proofs.Mornings.{Comes, at, sixth}
 
--- morning 9, in rows: 0 needs two of 1, 2 and 3; 1 is active, and 2 and 3 wait on 0
+-- morning 9: 0 needs two of 1, 2 and 3; 1 is active, and 2 and 3 wait on 0
 abbrev ninth : Waits
-ninth = waitsOf 4 (
-    1 ∷ 2 ∷ 0b1110 ∷ 0 ∷ 0 ∷ 0
-    ∷ 0 ∷ 0 ∷ 0 ∷ 0 ∷ 0 ∷ 0
-    ∷ 1 ∷ 1 ∷ 0b0001 ∷ 0 ∷ 0 ∷ 0
-    ∷ 1 ∷ 1 ∷ 0b0001 ∷ 0 ∷ 0 ∷ 0
-    ∷ [])
+ninth = waitsOf 4 (ninthRows 2)
 
 -- Counting answers instead of remembering who gave them: the GRANT that comes twice would meet "two of three". 0 would grant to 2
 -- and 3, and this same course would end not deadlocked.

@@ -128,15 +128,15 @@ module _ (o : Seen) (r : State) (m : Letter) where
   abbrev pub Stays : Type 0
   Stays = (a : Answer) × (receive o r m ≡ still r a)
 
-  -- it is taken, in the message's round
+  -- it is taken, in the message's round, which isn't behind
   abbrev Takes : Type 0
-  Takes = (receive o r m ≡ take o now m) × Fresh o now m
+  Takes = (receive o r m ≡ take o now m) × Fresh o now m × (behind (m .round) (r .round) ≡ false)
 
   pub not-old : behind (m .round) (r .round) ≡ false → receive o r m ≡ arrive o r now m
   unfolding receive
   not-old e = ap (λ (b : Bool). cond b (still r Old) (arrive o r now m)) e
 
-  old : behind (m .round) (r .round) ≡ true → receive o r m ≡ still r Old
+  pub old : behind (m .round) (r .round) ≡ true → receive o r m ≡ still r Old
   unfolding receive
   old e = ap (λ (b : Bool). cond b (still r Old) (arrive o r now m)) e
 
@@ -145,16 +145,16 @@ module _ (o : Seen) (r : State) (m : Letter) where
   unfolding arrive
   arrives e f = ap₂ (λ (a b : Bool). cond a (still r Stray) (cond b (still r Repeat) (take o now m))) e f
 
-  arrival : receive o r m ≡ arrive o r now m → (a b : Bool) → stray o now m ≡ a → has (hadOf (m .kind) now) (m .from) ≡ b → Takes ⊎ Stays
-  arrival q true b e f = inr (Stray, q ∙ arrives e f)
-  arrival q false true e f = inr (Repeat, q ∙ arrives e f)
-  arrival q false false e f = inl (q ∙ arrives e f, (e, f))
+  arrival : behind (m .round) (r .round) ≡ false → (a b : Bool) → stray o now m ≡ a → has (hadOf (m .kind) now) (m .from) ≡ b → Takes ⊎ Stays
+  arrival n true b e f = inr (Stray, not-old n ∙ arrives e f)
+  arrival n false true e f = inr (Repeat, not-old n ∙ arrives e f)
+  arrival n false false e f = inl (not-old n ∙ arrives e f, (e, f), n)
 
   -- Theorem: a message is taken or leaves everything as it was.
   pub takes-or-stays : Takes ⊎ Stays
   takes-or-stays = elim (true-or-false (behind (m .round) (r .round))) [
     | inl e ↦ inr (Old, old e)
-    | inr e ↦ arrival (not-old e) (stray o now m) (has (hadOf (m .kind) now) (m .from)) refl refl
+    | inr e ↦ arrival e (stray o now m) (has (hadOf (m .kind) now) (m .from)) refl refl
   ]
 
   module _ (sound : Sound o) (w : Formed o r) where

@@ -15,12 +15,12 @@ use Rattle.waits.specs.declared.numbers.Checked.{Checked}
 use Rattle.waits.specs.declared.numbers.Checked.the-variants.{Accepted}
 use Rattle.lent.specs.Kept.{recordSize, recordNumbers}
 use Rattle.bench.specs.declared.calls.Ran.{Ran}
-use Rattle.bench.specs.Bench.{Bench, bench}
+use Rattle.bench.specs.Bench.{Bench, bench, fresh}
 use Rattle.bench.specs.Strange.{strangeBench, Good}
 use Rattle.bench.specs.Runs.{Run, run, runOn, answersOn, refuseAll, runOf}
 use Rattle.bench.proofs.Sound.{good-sound, shaped, sent-listed}
 use Rattle.bench.proofs.Turns.{run-good, answers-length}
-use Rattle.transcript.specs.Transcript.{zeros, fresh, toldOf, told, BeginSays}
+use Rattle.transcript.specs.Transcript.{zeros, toldOf, told, BeginSays}
 
 -- ---- lists of zeros
 pub take-zeros : (n m : ℕ) → n ≤ m → take n (zeros m) ≡ zeros n
@@ -64,14 +64,14 @@ module _ (n : ℕ) (rows : List ℕ) (room : ℕ) (steps found : List ℕ) (enou
   abbrev begun : Bench
   begun = bench (zeros (recordNumbers n)) (zeros room) 0 0
 
-  same-bench : n ≤ places → begun ≡ fresh n room
+  same-bench : n ≤ places → begun ≡ fresh n (zeros room)
   same-bench h = ap (λ (k : ℕ). bench (zeros k) (zeros room) 0 0) (numbers-few n h)
 
   -- both are refused, or they are the same and neither is
-  both : (p q : Bool) → strangeBench n rows begun ≡ p → strangeBench n rows (fresh n room) ≡ q → p ≡ q
+  both : (p q : Bool) → strangeBench n rows begun ≡ p → strangeBench n rows (fresh n (zeros room)) ≡ q → p ≡ q
   both true true e f = refl
   both false false e f = refl
-  both true false e f = sym e ∙ ap (strangeBench n rows) (same-bench (shaped n rows (fresh n room) (good-sound n rows (fresh n room) f) .0)) ∙ f
+  both true false e f = sym e ∙ ap (strangeBench n rows) (same-bench (shaped n rows (fresh n (zeros room)) (good-sound n rows (fresh n (zeros room)) f) .0)) ∙ f
   both false true e f = sym e ∙ ap (strangeBench n rows) (same-bench (shaped n rows begun (good-sound n rows begun e) .0)) ∙ f
 
   module _ (r : Ran) (records messages answers rest : List ℕ)
@@ -80,7 +80,7 @@ module _ (n : ℕ) (rows : List ℕ) (room : ℕ) (steps found : List ℕ) (enou
     unfolding toldOf
     refused-says s =
         let f = e ∙ run-refused n rows begun steps found s in
-        let g = run-refused n rows (fresh n room) steps (zeros (length steps)) (sym (both true _ s refl)) in
+        let g = run-refused n rows (fresh n (zeros room)) steps (zeros (length steps)) (sym (both true _ s refl)) in
         let none : r .sent ≡ 0 = ap (λ (x : Run). x .bench .sent) f in
         record {
           text = ap (λ (c : Checked). toldOf c (take (length steps) answers) (take (r .sent) (messages ++ rest))) (ap (λ (x : Run). x .checked) f) ∙ sym (ap told g);
@@ -92,7 +92,7 @@ module _ (n : ℕ) (rows : List ℕ) (room : ℕ) (steps found : List ℕ) (enou
         let same = same-bench (shaped n rows begun (good-sound n rows begun s) .0) in
         let f = e ∙ run-taken n rows begun steps found s enough in
         let none : length (zeros (length steps)) ≡ length steps = zeros-length (length steps) in
-        let g = run-taken n rows (fresh n room) steps (zeros (length steps)) (sym (both false _ s refl)) (omega (arith, none)) in
+        let g = run-taken n rows (fresh n (zeros room)) steps (zeros (length steps)) (sym (both false _ s refl)) (omega (arith, none)) in
         let ended = runOn n rows begun steps in
         let said = answersOn n rows begun steps in
         let count = answers-length n rows steps begun in
@@ -109,7 +109,7 @@ module _ (n : ℕ) (rows : List ℕ) (room : ℕ) (steps found : List ℕ) (enou
           text =
               (λ i. toldOf (f i .checked) (first i) (part i))
               ∙ ap (λ (b : Bench). toldOf Accepted (answersOn n rows b steps) (take (runOn n rows b steps .sent) (runOn n rows b steps .messages))) same
-              ∙ ap (λ (l : List ℕ). toldOf Accepted l (take (runOn n rows (fresh n room) steps .sent) (runOn n rows (fresh n room) steps .messages)))
+              ∙ ap (λ (l : List ℕ). toldOf Accepted l (take (runOn n rows (fresh n (zeros room)) steps .sent) (runOn n rows (fresh n (zeros room)) steps .messages)))
               (sym (subst (λ (b : Bench). sets (zeros (length steps)) 0 (answersOn n rows b steps) ≡ answersOn n rows b steps) same whole))
               ∙ sym (ap told g);
           listed = omega (arith, here, length-append messages rest);

@@ -22,7 +22,7 @@ use Rattle.waits.specs.Rows.{waitsOf}
 use Rattle.step.specs.Answers.{codeOf}
 use Rattle.lent.specs.Coded.{messageOf}
 use Rattle.lent.specs.Steps.{stepOf, answerNumber}
-use Rattle.bench.specs.Bench.{Bench, After}
+use Rattle.bench.specs.Bench.{Bench, After, fresh}
 use Rattle.bench.specs.Strange.{strangeSent, strangeMessages, strangeBench, Good}
 use Rattle.bench.specs.Steps.{stepOn}
 use Rattle.bench.specs.Runs.{said, runOn, answersOn, runOf}
@@ -37,7 +37,7 @@ use Rattle.script.specs.Script.Meant.{NoScript}
 use Rattle.script.specs.Numbers.{numbersOf}
 use Rattle.script.proofs.Triples.{steps-length}
 use Rattle.script.proofs.Shapes.{from, count, rest, script, Passed, is-script, none-or-passed}
-use Rattle.transcript.specs.Transcript.{zeros, fresh, lineOf, messageLines, toldOf, told, played, answeredBy, transcriptOf}
+use Rattle.transcript.specs.Transcript.{zeros, lineOf, messageLines, toldOf, told, played, answeredBy, transcriptOf}
 use Rattle.transcript.proofs.Fresh.{zeros-length, filled, run-refused, run-taken}
 
 -- ---- the answers
@@ -98,7 +98,7 @@ module _ (s : Script) (few : length (s .steps) ≤ most) where
   n = s .nodes
 
   abbrev start : Bench
-  start = fresh n (s .room)
+  start = fresh n (zeros (s .room))
 
   abbrev places-for : List ℕ
   places-for = zeros (length (s .steps))

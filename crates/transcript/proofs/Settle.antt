@@ -6,6 +6,7 @@ use native.Mathlib.Omega.{arith}
 use lib.ListN.{length, take, drop}
 use lib.Seq.{length-take-le, length-sets}
 use Rattle.bench.specs.declared.calls.Ran.{Ran}
+use Rattle.bench.specs.Bench.{fresh}
 use Rattle.bench.specs.Runs.{runOf}
 use Rattle.text.specs.Text.{Text, write}
 use Rattle.lines.specs.Lines.{noScriptLine}
@@ -15,7 +16,7 @@ use Rattle.script.specs.declared.script.Parsed.the-variants.{NoScript as Parsed
 use Rattle.script.specs.Script.{most, mostNumbers, Script, Meant, meantBy, stepsIn, numbersRead, ParseSays}
 use Rattle.script.specs.Script.Meant.{IsScript}
 use Rattle.script.proofs.Settled.{Stands, parse-none, parse-script}
-use Rattle.transcript.specs.Transcript.{zeros, fresh, toldOf, told, played, answeredBy, transcriptOf, BeginSays, scriptAt}
+use Rattle.transcript.specs.Transcript.{zeros, toldOf, told, played, answeredBy, transcriptOf, BeginSays, scriptAt}
 use Rattle.transcript.proofs.Fresh.{zeros-length}
 
 -- ---- the first steps of a list
@@ -38,7 +39,7 @@ played-as numbers steps h r rows messages answers t l e says f =
     ∙ ap (write t)
     (ap (λ (k : ℕ). toldOf (r .checked) (take k answers) (take (r .sent) messages)) (first-length (h .steps) steps l)
     ∙ says .text
-    ∙ ap (λ (x : List ℕ). told (runOf (h .nodes) x (fresh (h .nodes) (h .room)) (take (h .steps) steps) (zeros (length (take (h .steps) steps))))) e)
+    ∙ ap (λ (x : List ℕ). told (runOf (h .nodes) x (fresh (h .nodes) (zeros (h .room))) (take (h .steps) steps) (zeros (length (take (h .steps) steps))))) e)
 
 -- ---- what the parser found
 module _ (bytes numbers steps numbers′ steps′ : List ℕ) {p : Parsed} (says : ParseSays bytes numbers steps numbers′ steps′ p) where

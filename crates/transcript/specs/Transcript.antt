@@ -1,15 +1,14 @@
 -- A script in, a text out: its steps are taken on a fresh bench, and the text says what came of them. Assumes nothing.
 use mathlib.Core.Path.{_≡_}
 use mathlib.Core.List.{List, [], _∷_, _++_}
-use Prim.Native.Nat.{ℕ, suc, _*_, _≤_}
+use Prim.Native.Nat.{ℕ, suc, _≤_}
 use lib.ListN.{length, take, drop, replicate}
 use Rattle.records.specs.declared.messages.Message.{Message}
 use Rattle.waits.specs.declared.numbers.Checked.{Checked}
 use Rattle.waits.specs.declared.numbers.Checked.the-variants.{Accepted, Refused}
-use Rattle.lent.specs.Kept.{recordSize}
 use Rattle.lent.specs.Coded.{messageOf}
 use Rattle.bench.specs.declared.calls.Ran.{Ran}
-use Rattle.bench.specs.Bench.{Bench, bench}
+use Rattle.bench.specs.Bench.{fresh}
 use Rattle.bench.specs.Runs.{Run, runOf}
 use Rattle.lines.specs.Lines.{answerLines, messageLine, refusedLine, noScriptLine}
 use Rattle.script.specs.declared.script.Shape.{Shape}
@@ -18,10 +17,6 @@ use Rattle.script.specs.Script.Meant.{NoScript, IsScript}
 
 abbrev pub zeros : ℕ → List ℕ
 zeros n = replicate n 0
-
--- fresh records, which are blank in round 0, and an empty list
-abbrev pub fresh : ℕ → ℕ → Bench
-fresh n room = bench (zeros (n * recordSize)) (zeros room) 0 0
 
 -- a line for a message, and for each of those sent, numbered from k
 abbrev pub lineOf : ℕ → Message → List ℕ
@@ -41,7 +36,7 @@ told r = toldOf (r .checked) (r .answers) (take (r .bench .sent) (r .bench .mess
 
 -- a script's steps, each with an answer place
 unfoldable pub played : Script → List ℕ
-played s = told (runOf (s .nodes) (s .rows) (fresh (s .nodes) (s .room)) (s .steps) (zeros (length (s .steps))))
+played s = told (runOf (s .nodes) (s .rows) (fresh (s .nodes) (zeros (s .room))) (s .steps) (zeros (length (s .steps))))
 
 abbrev pub answeredBy : Meant → List ℕ
 answeredBy NoScript = noScriptLine
@@ -56,7 +51,7 @@ transcriptOf bytes = answeredBy (meantBy bytes)
 -- of what came of steps on a fresh bench, with the lists of messages and answers as left: the right text, and no message past the list
 pub record BeginSays (n : ℕ) (rows : List ℕ) (room : ℕ) (steps : List ℕ) (r : Ran) (messages answers : List ℕ) : Type 0 where
   pub text : toldOf (r .checked) (take (length steps) answers) (take (r .sent) messages)
-      ≡ told (runOf n rows (fresh n room) steps (zeros (length steps)))
+      ≡ told (runOf n rows (fresh n (zeros room)) steps (zeros (length steps)))
   pub listed : r .sent ≤ length messages
 
 -- the script whose numbers and steps stand in lists, of the shape that the parser found

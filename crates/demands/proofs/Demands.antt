@@ -1,0 +1,76 @@
+-- The three demands, shown: each field is a theorem of another file. Assumes nothing.
+use mathlib.Core.Path.{_≡_, sym, _∙_, subst}
+use mathlib.Core.List.{List}
+use Prim.Native.Nat.{ℕ, _*_, _≤_}
+use native.Mathlib.Omega.{arith}
+use Rattle.waits.specs.declared.numbers.Checked.the-variants.{Accepted}
+use Rattle.waits.specs.Waits.{edges}
+use Rattle.waits.specs.Rows.{waitsOf}
+use Rattle.waits.specs.Numbers.{checkOf}
+use Rattle.waits.proofs.Table.{check-refused}
+use Rattle.deadlock.proofs.Passing.{in-outside, passes-same}
+use Rattle.lent.specs.declared.steps.Step.{Step}
+use Rattle.bench.specs.Bench.{fresh}
+use Rattle.demands.specs.Turns.{turns, afterSteps, heard}
+use Rattle.demands.specs.Demands.{Demand1, Demand2, Demand3}
+use Rattle.demands.proofs.Refused.{claim-gives, list-gives, room-gives, open-gives, open-left, deliver-gives, deliver-left, step-gives, step-left, run-gives, run-left}
+use Rattle.demands.proofs.Claims.{claim-right, list-right, some-list}
+use Rattle.demands.proofs.Stands.{sent-count}
+use Rattle.demands.proofs.Past.{opened-low, opened-heard, heard-opened}
+use Rattle.demands.proofs.Verdicts.{gave-said}
+use Rattle.demands.proofs.Shown.{round-count}
+use Rattle.demands.proofs.Lists.{run-singly, answers-singly}
+use Rattle.demands.proofs.Rounds.{as-numbers, opens, opens-only, stands, rules, ends, evidence, room-enough}
+
+pub demand-1 : Demand1
+demand-1 = record {
+  graph = check-refused;
+  claim = claim-gives;
+  list = λ n rows i l r. list-gives n rows i r l;
+  room = λ n rows i bytes r. room-gives n rows i r bytes;
+  controller-opens = open-gives;
+  controller-delivers = deliver-gives;
+  step = step-gives;
+  run = run-gives;
+  bytes-left = λ n rows i found left r s. s .1;
+  opens-left = open-left;
+  delivers-left = deliver-left;
+  step-left = step-left;
+  run-left = run-left;
+}
+
+pub demand-2 : (n : ℕ) (rows : List ℕ) (i : ℕ) → Demand2 n rows i
+demand-2 n rows i = record {
+  claim = claim-right n rows i;
+  list = list-right n rows i;
+  those-outside = in-outside (waitsOf n rows);
+  alike = passes-same (waitsOf n rows) i;
+  link = some-list n rows i;
+}
+
+pub demand-3 : (n : ℕ) (rows messages : List ℕ) (steps : List Step) → checkOf n rows ≡ Accepted → Demand3 n rows messages steps
+demand-3 n rows messages steps ok =
+    let w = waitsOf n rows in
+    let now = afterSteps n rows (fresh n messages) steps in
+    let events = heard (turns n rows (fresh n messages) steps) in
+    let st = stands n rows messages steps ok in
+    let all = rules n rows messages steps ok in
+    let heard-as = opened-heard n rows messages steps in
+    record {
+      one-opener = λ s t round o p. all .one-opener s t round (heard-as s round o) (heard-as t round p);
+      higher = λ s round o. let h = opened-low w events (st .history) s round (heard-as s round o) in omega (arith, st .highest);
+      opens = λ s round. opens n rows now s round (st .good);
+      opens-only = opens-only n rows now;
+      as-numbers = as-numbers;
+      opener = λ round v g. let r = all .said-opened round v (gave-said n rows messages ok round v steps g) in (r .0, heard-opened n rows messages steps (r .0) round (r .1));
+      no-false = λ s round v o g. all .verdict-right s round (heard-as s round o) v (gave-said n rows messages ok round v steps g);
+      ends = ends n rows messages steps ok;
+      at-most-four = λ round. subst (λ (x : ℕ). x ≤ 4 * edges w) (sym (round-count st round)) (all .at-most-four round);
+      by-rules = (st .history, st .messages);
+      count = sent-count st;
+      count-exactly = λ s round v o g reachable freed f h.
+          round-count st round ∙ all .count-exactly s round (heard-as s round o) v (gave-said n rows messages ok round v steps g) reachable freed f h;
+      evidence = evidence n rows messages steps ok;
+      room-enough = room-enough n rows messages steps ok;
+      as-a-list = λ l. (run-singly n rows l now, answers-singly n rows l now);
+    }

@@ -1,0 +1,137 @@
+-- From the theorem on many rounds to the bench: what is so of every history of the rules is so of every bench that was worked from a
+-- fresh start. Assumes nothing.
+use mathlib.Core.Path.{_≡_, refl, sym, ap, _∙_, subst}
+use mathlib.Core.Bool.{Bool, true, false, cond, true≢false}
+use mathlib.Core.Logic.{_⊎_, inl, inr, _↔_}
+use mathlib.Core.List.{List, _∷_, List·Memᴰ}
+use mathlib.Core.List.List·Memᴰ.{List·Memᴰ·head as here, List·Memᴰ·tail as there}
+use Prim.Native.Nat.{ℕ, _+_, _*_, _≤_, _<_}
+use native.Mathlib.Omega.{arith}
+use lib.Dec.{ltb}
+use borrow.Author.Tests.{lt-leb}
+use Rattle.nodes.specs.Sets.{noNode}
+use Rattle.records.specs.Messages.{Letter}
+use Rattle.records.specs.Rounds.{lastRound, behind, ahead, cannotOpen}
+use Rattle.records.proofs.Higher.{behind-iff, ahead-iff, opens-iff}
+use Rattle.waits.specs.declared.numbers.Refusal.{Refusal}
+use Rattle.waits.specs.declared.numbers.Checked.the-variants.{Accepted, Refused}
+use Rattle.waits.specs.Waits.{Waits, edges}
+use Rattle.waits.specs.Rows.{waitsOf}
+use Rattle.waits.specs.Numbers.{line, firstSaid, checkOf}
+use Rattle.waits.proofs.Table.{accepted-silent}
+use Rattle.waits.proofs.Lawful.{accepted-lawful}
+use Rattle.deadlock.specs.Evidence.{Evidence}
+use Rattle.step.specs.declared.answers.Verdict.{Verdict}
+use Rattle.step.specs.declared.answers.Verdict.the-variants.{Deadlocked}
+use Rattle.step.specs.declared.answers.Answer.the-variants.{Refused as Answer·Refused}
+use Rattle.lent.specs.declared.steps.Step.{Step}
+use Rattle.bench.specs.Bench.{Bench, After, fresh, room, refusal}
+use Rattle.bench.specs.Strange.{Good, strangeBench}
+use Rattle.bench.specs.Steps.{stepOn}
+use Rattle.rounds.specs.Verdicts.{Right}
+use Rattle.rounds.specs.Ends.{heldIn}
+use Rattle.rounds.specs.History.{Event, since, highestIn, openings, Opened as History·Opened, verdictsOf, standing, AllArrived}
+use Rattle.rounds.specs.ManyRounds.{ManyRounds}
+use Rattle.rounds.proofs.ManyRounds.{many-rounds}
+use Rattle.demands.specs.Turns.{turn, turns, afterSteps, accepted, opening, letterAt, eventOf, heard, heldOn}
+use Rattle.demands.specs.Refusals.{wouldSend, stepLines}
+use Rattle.demands.specs.Demands.{Opened, Arrived, Gave}
+use Rattle.demands.proofs.Said.{Says, not-refused, one-refusal, says-accepted, step-says}
+use Rattle.demands.proofs.Stands.{Stands, sent-letter}
+use Rattle.demands.proofs.Onward.{Onward, step-onward}
+use Rattle.demands.proofs.Onward.Onward.{refused, full, taken}
+use Rattle.demands.proofs.Heard.{outcome-accepted, all-stand}
+use Rattle.demands.proofs.Past.{opened-heard, arrived-heard}
+use Rattle.demands.proofs.Verdicts.{gave-said, said-gave}
+use Rattle.demands.proofs.Shown.{held-same}
+
+-- ---- rounds are compared as numbers
+pub as-numbers : (round own : ℕ) → ((behind round own ≡ true) ↔ (round < own)) × ((ahead round own ≡ true) ↔ (own < round))
+as-numbers round own = (behind-iff round own, ahead-iff round own)
+
+-- ---- which rounds can be opened
+module _ (n : ℕ) (rows : List ℕ) (b : Bench) (s round : ℕ) where
+  abbrev tried : After
+  tried = stepOn n rows b (opening s round)
+
+  pub opens : Good n rows b → s < n → (b .highest < round) × (round ≤ lastRound) → (accepted (tried .answer) ≡ true) ⊎ (tried .answer ≡ Answer·Refused (refusal 12))
+  unfolding noNode
+  opens good h k =
+      go (strangeBench n rows b) (noNode n s) (cannotOpen (b .highest) round) (ltb (room b) (b .sent + wouldSend (waitsOf n rows) b (opening s round)))
+      good (lt-leb n s h) (opens-iff (b .highest) round .1 k) (step-says b n rows (opening s round))
+    where
+      go : (p q r t : Bool) → p ≡ false → q ≡ false → r ≡ false
+          → Says b tried (cond p (Refused (refusal 13)) (cond q (Refused (refusal 9)) (cond r (Refused (refusal 10)) (cond t (Refused (refusal 12)) Accepted))))
+          → (accepted (tried .answer) ≡ true) ⊎ (tried .answer ≡ Answer·Refused (refusal 12))
+      go true q r t e f g x = absurd (true≢false e)
+      go false true r t e f g x = absurd (true≢false f)
+      go false false true t e f g x = absurd (true≢false g)
+      go false false false true e f g x = inr (ap (λ (a : After). a .answer) x)
+      go false false false false e f g x = inl x
+
+  pub opens-only : accepted (tried .answer) ≡ true → (b .highest < round) × (round ≤ lastRound)
+  opens-only e =
+      let lines = stepLines n rows b (opening s round) in
+      let said = says-accepted b tried (firstSaid lines) (step-says b n rows (opening s round)) e in
+      opens-iff (b .highest) round .0 (accepted-silent lines said (line 10 0 (cannotOpen (b .highest) round)) (there (there (here refl))))
+
+-- ---- every bench that was worked from a fresh start
+module _ (n : ℕ) (rows messages : List ℕ) (steps : List Step) (ok : checkOf n rows ≡ Accepted) where
+  abbrev w : Waits
+  w = waitsOf n rows
+
+  abbrev now : Bench
+  now = afterSteps n rows (fresh n messages) steps
+
+  abbrev events : List Event
+  events = heard (turns n rows (fresh n messages) steps)
+
+  pub stands : Stands n rows now events
+  stands = all-stand n rows messages ok steps
+
+  pub rules : ManyRounds w events
+  rules = many-rounds w (accepted-lawful n rows ok) events (stands .history)
+
+  -- ---- the newest round
+  module _ (s : ℕ) (opened : Opened n rows messages steps s (now .highest)) where
+    newest : History·Opened events s (highestIn events)
+    newest = subst (History·Opened events s) (stands .highest) (opened-heard n rows messages steps s (now .highest) opened)
+
+    all-arrived : ((k : ℕ) → k < now .sent → letterAt now k .round ≡ now .highest → Arrived n rows messages steps k) → AllArrived w (highestIn events) events
+    all-arrived arrived m i q =
+        let (k, h, e) = sent-letter stands m i in
+        subst (λ (x : Letter). List·Memᴰ (Event.arrives x) events) e
+        (arrived-heard n rows messages steps ok k (arrived k h (ap (λ (x : Letter). x .round) e ∙ q ∙ sym (stands .highest))))
+
+    pub ends : ((k : ℕ) → k < now .sent → letterAt now k .round ≡ now .highest → Arrived n rows messages steps k)
+        → (v : Verdict) × Gave n rows messages steps (now .highest) v × Right w s v
+    ends arrived =
+        let (v, e) = rules .it-ends s newest (all-arrived arrived) in
+        let said : List·Memᴰ v (verdictsOf w (highestIn events) events) = subst (λ (x : List Verdict). List·Memᴰ v x) (sym e) (here refl) in (
+          v,
+          said-gave n rows messages ok (now .highest) v steps (subst (λ (r : ℕ). List·Memᴰ v (verdictsOf w r events)) (sym (stands .highest)) said),
+          rules .verdict-right s (highestIn events) newest v said,
+        )
+
+    pub evidence : Gave n rows messages steps (now .highest) Deadlocked → Evidence w s (heldOn n now)
+    evidence gave =
+        subst (Evidence w s) (sym (held-same stands ∙ ap (λ (r : ℕ). heldIn w (standing r (since w events))) (stands .highest)))
+        (rules .evidence-exactly s newest
+        (subst (λ (r : ℕ). List·Memᴰ Deadlocked (verdictsOf w r events)) (stands .highest) (gave-said n rows messages ok (now .highest) Deadlocked steps gave)))
+
+  -- ---- 12 can't occur while the room is enough: what is sent is no more than the rules send
+  module _ (x : Step) where
+    abbrev event : Event
+    event = eventOf (turn n rows now x)
+
+    too-few : (r t c : ℕ) → r < t → t ≤ c → c ≤ r → ⊥
+    too-few r t c h k l = omega arith
+
+    room-enough-as : {a : After} → Onward n rows now events event a → 4 * edges w * openings (event ∷ events) ≤ room now
+        → a .answer ≡ Answer·Refused (refusal 12) → ⊥
+    room-enough-as (refused number h) e f = let q = ap (λ (r : Refusal). r .number) (one-refusal f) in omega arith
+    room-enough-as (full h r) e f = too-few (room now) _ _ r (many-rounds w (accepted-lawful n rows ok) (event ∷ events) h .at-most-in-all) e
+    room-enough-as (taken next s more same) e f = not-refused (outcome-accepted w (since w events) event) f
+
+    pub room-enough : 4 * edges w * openings (event ∷ events) ≤ room now → stepOn n rows now x .answer ≡ Answer·Refused (refusal 12) → ⊥
+    room-enough = room-enough-as (step-onward stands x)

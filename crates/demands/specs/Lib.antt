@@ -1,0 +1,5 @@
+-- What was demanded, over the definitions of the other crates, and the small mornings in one table.
+pub mod Turns
+pub mod Refusals
+pub mod Demands
+pub mod Table
