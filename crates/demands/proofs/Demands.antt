@@ -1,22 +1,22 @@
 -- The three demands, shown: each field is a theorem of another file. Assumes nothing.
-use mathlib.Core.Path.{_≡_, sym, _∙_, subst}
+use mathlib.Core.Path.{_≡_, refl, sym, _∙_, subst}
 use mathlib.Core.List.{List}
 use Prim.Native.Nat.{ℕ, _*_, _≤_}
-use native.Mathlib.Omega.{arith}
 use Rattle.waits.specs.declared.numbers.Checked.the-variants.{Accepted}
-use Rattle.waits.specs.Waits.{edges}
+use Rattle.waits.specs.Waits.{inOf, edges}
 use Rattle.waits.specs.Rows.{waitsOf}
 use Rattle.waits.specs.Numbers.{checkOf}
 use Rattle.waits.proofs.Table.{check-refused}
 use Rattle.deadlock.proofs.Passing.{in-outside, passes-same}
+use Rattle.node.proofs.Local.{own-seen}
 use Rattle.lent.specs.declared.steps.Step.{Step}
 use Rattle.bench.specs.Bench.{fresh}
 use Rattle.demands.specs.Turns.{turns, afterSteps, heard}
 use Rattle.demands.specs.Demands.{Demand1, Demand2, Demand3}
 use Rattle.demands.proofs.Refused.{claim-gives, list-gives, room-gives, open-gives, open-left, deliver-gives, deliver-left, step-gives, step-left, run-gives, run-left}
-use Rattle.demands.proofs.Claims.{claim-right, list-right, some-list}
+use Rattle.demands.proofs.Claims.{threshold-met, set-met, claim-right, list-right, some-list}
 use Rattle.demands.proofs.Stands.{sent-count}
-use Rattle.demands.proofs.Past.{opened-low, opened-heard, heard-opened}
+use Rattle.demands.proofs.Past.{opened-heard, heard-opened}
 use Rattle.demands.proofs.Verdicts.{gave-said}
 use Rattle.demands.proofs.Shown.{round-count}
 use Rattle.demands.proofs.Lists.{run-singly, answers-singly}
@@ -41,6 +41,8 @@ demand-1 = record {
 
 pub demand-2 : (n : ℕ) (rows : List ℕ) (i : ℕ) → Demand2 n rows i
 demand-2 n rows i = record {
+  p-of-q = threshold-met n rows i;
+  and-or = set-met n rows i;
   claim = claim-right n rows i;
   list = list-right n rows i;
   those-outside = in-outside (waitsOf n rows);
@@ -58,7 +60,7 @@ demand-3 n rows messages steps ok =
     let heard-as = opened-heard n rows messages steps in
     record {
       one-opener = λ s t round o p. all .one-opener s t round (heard-as s round o) (heard-as t round p);
-      higher = λ s round o. let h = opened-low w events (st .history) s round (heard-as s round o) in omega (arith, st .highest);
+      higher = λ s round o. subst (λ (h : ℕ). round ≤ h) (sym (st .highest)) (all .higher s round (heard-as s round o));
       opens = λ s round. opens n rows now s round (st .good);
       opens-only = opens-only n rows now;
       as-numbers = as-numbers;
@@ -72,5 +74,6 @@ demand-3 n rows messages steps ok =
           round-count st round ∙ all .count-exactly s round (heard-as s round o) v (gave-said n rows messages ok round v steps g) reachable freed f h;
       evidence = evidence n rows messages steps ok;
       room-enough = room-enough n rows messages steps ok;
+      alone = λ i row e. own-seen n i row (inOf w i) rows e refl;
       as-a-list = λ l. (run-singly n rows l now, answers-singly n rows l now);
     }

@@ -1,25 +1,24 @@
 -- What the turns of a bench say of openings and arrivals, as the rules' history says it. Assumes nothing.
 use mathlib.Core.Path.{_≡_, refl, sym, ap, _∙_}
 use mathlib.Core.Bool.{Bool, true, false, cond, _&&_}
-use mathlib.Core.List.{List, [], _∷_, List·Memᴰ, Memᴰ·cast}
+use mathlib.Core.List.{List, List·Memᴰ, Memᴰ·cast}
 use mathlib.Core.List.List·Memᴰ.{List·Memᴰ·head as here, List·Memᴰ·tail as there}
-use Prim.Native.Nat.{ℕ, _≤_, _<_}
+use Prim.Native.Nat.{ℕ, _<_}
 use native.Mathlib.Omega.{arith}
 use lib.Dec.{eqb, leb}
 use borrow.Author.Tests.{leb-false, eqb-true, eq-eqb, ne-eqb}
 use Rattle.lemmas.proofs.Cases.{and-rest}
 use Rattle.lemmas.proofs.Tests.{or-left-false}
-use Rattle.records.specs.Messages.{Letter, letterOf}
-use Rattle.records.proofs.Higher.{opens-iff}
+use Rattle.records.specs.Messages.{letterOf}
 use Rattle.waits.specs.declared.numbers.Checked.the-variants.{Accepted}
-use Rattle.waits.specs.Waits.{Waits}
 use Rattle.waits.specs.Numbers.{line, firstSaid, checkOf}
 use Rattle.waits.proofs.Table.{accepted-silent}
 use Rattle.lent.specs.declared.steps.Step.{Step}
 use Rattle.lent.specs.Coded.{messageOf}
 use Rattle.bench.specs.Bench.{fresh}
 use Rattle.bench.specs.Steps.{stepOn}
-use Rattle.rounds.specs.History.{Event, highestIn, History, Opened as History·Opened}
+use Rattle.rounds.specs.History.{Event, Opened as History·Opened}
+use Rattle.rounds.proofs.Told.{events-apart}
 use Rattle.demands.specs.Turns.{Turn, turns, afterSteps, accepted, opening, letterAt, eventOf, heard}
 use Rattle.demands.specs.Refusals.{stepLines}
 use Rattle.demands.specs.Demands.{Opened, Arrived}
@@ -27,25 +26,11 @@ use Rattle.demands.proofs.Said.{says-accepted, step-says}
 use Rattle.demands.proofs.Heard.{turn-kept, turn-answer, turn-heard, heard-turn}
 
 -- ---- events
-events-apart : {m : Letter} {s round : ℕ} → Event.arrives m ≡ Event.opens s round → ⊥
-events-apart e = let z : _≡_ {A = ℕ} 0 1 = cc e in omega arith
-
 same-opener : {i s r round : ℕ} → Event.opens i r ≡ Event.opens s round → i ≡ s
 same-opener e = cc e
 
 same-round : {i s r round : ℕ} → Event.opens i r ≡ Event.opens s round → r ≡ round
 same-round e = cc e
-
--- a round that was opened isn't above the highest
-pub opened-low : (w : Waits) (l : List Event) → History w l → (s round : ℕ) → History·Opened l s round → round ≤ highestIn l
-opened-low w [] h s round i = absurd (elim i [ ])
-opened-low w (Event.opens j r ∷ l) h s round (here e) = let q = same-round e in omega arith
-opened-low w (Event.opens j r ∷ l) h s round (there i) =
-    let p = opened-low w l (h .2) s round i in
-    let q = opens-iff (highestIn l) r .0 (h .1) .0 in
-    omega arith
-opened-low w (Event.arrives m ∷ l) h s round (here e) = absurd (events-apart (sym e))
-opened-low w (Event.arrives m ∷ l) h s round (there i) = opened-low w l (h .1) s round i
 
 -- ---- a turn and its event
 module _ (t : Turn) where

@@ -3,11 +3,12 @@
 use mathlib.Core.Path.{_≡_, refl, sym, ap, _∙_, subst}
 use mathlib.Core.Bool.{Bool, true, false, cond, true≢false}
 use mathlib.Core.Logic.{_⊎_, inl, inr, _↔_}
-use mathlib.Core.List.{List, _∷_, List·Memᴰ}
+use mathlib.Core.List.{List, _∷_, _++_, List·Memᴰ}
 use mathlib.Core.List.List·Memᴰ.{List·Memᴰ·head as here, List·Memᴰ·tail as there}
 use Prim.Native.Nat.{ℕ, _+_, _*_, _≤_, _<_}
 use native.Mathlib.Omega.{arith}
 use lib.Dec.{ltb}
+use lib.ListN.{drop}
 use borrow.Author.Tests.{lt-leb}
 use Rattle.nodes.specs.Sets.{noNode}
 use Rattle.records.specs.Messages.{Letter}
@@ -20,7 +21,9 @@ use Rattle.waits.specs.Rows.{waitsOf}
 use Rattle.waits.specs.Numbers.{line, firstSaid, checkOf}
 use Rattle.waits.proofs.Table.{accepted-silent}
 use Rattle.waits.proofs.Lawful.{accepted-lawful}
-use Rattle.deadlock.specs.Evidence.{Evidence}
+use Rattle.deadlock.specs.declared.evidence.Written.the-variants.{Bytes}
+use Rattle.deadlock.specs.Evidence.{Evidence, WrittenSays}
+use Rattle.deadlock.proofs.Unique.{one-evidence}
 use Rattle.step.specs.declared.answers.Verdict.{Verdict}
 use Rattle.step.specs.declared.answers.Verdict.the-variants.{Deadlocked}
 use Rattle.step.specs.declared.answers.Answer.the-variants.{Refused as Answer·Refused}
@@ -113,11 +116,19 @@ module _ (n : ℕ) (rows messages : List ℕ) (steps : List Step) (ok : checkOf 
           rules .verdict-right s (highestIn events) newest v said,
         )
 
-    pub evidence : Gave n rows messages steps (now .highest) Deadlocked → Evidence w s (heldOn n now)
-    evidence gave =
+    held-evidence : Gave n rows messages steps (now .highest) Deadlocked → Evidence w s (heldOn n now)
+    held-evidence gave =
         subst (Evidence w s) (sym (held-same stands ∙ ap (λ (r : ℕ). heldIn w (standing r (since w events))) (stands .highest)))
         (rules .evidence-exactly s newest
         (subst (λ (r : ℕ). List·Memᴰ Deadlocked (verdictsOf w r events)) (stands .highest) (gave-said n rows messages ok (now .highest) Deadlocked steps gave)))
+
+    -- and so it is what was written for s
+    pub evidence : Gave n rows messages steps (now .highest) Deadlocked → Evidence w s (heldOn n now)
+        × ((found left : List ℕ) (k : ℕ) → WrittenSays n rows s found left (Bytes k) → left ≡ heldOn n now ++ drop k found)
+    evidence gave = (
+      held-evidence gave,
+      λ found left k said. said .1 .3 ∙ ap (λ (l : List ℕ). l ++ drop k found) (one-evidence w s (said .1 .0) (heldOn n now) (said .1 .1) (held-evidence gave)),
+    )
 
   -- ---- 12 can't occur while the room is enough: what is sent is no more than the rules send
   module _ (x : Step) where

@@ -1,14 +1,14 @@
 -- What a bench that stands for a history shows: how many messages a round has sent, and who is held in the highest round. Assumes
 -- nothing.
-use mathlib.Core.Path.{_≡_, refl, sym, ap, _∙_}
-use mathlib.Core.Bool.{Bool, true, false, cond, not, _&&_}
-use mathlib.Core.List.{List, [], _∷_, map, List·Memᴰ}
-use mathlib.Core.List.List·Memᴰ.{List·Memᴰ·head as here, List·Memᴰ·tail as there}
-use Prim.Native.Nat.{ℕ, suc, _<_}
+use mathlib.Core.Path.{_≡_, sym, ap, _∙_}
+use mathlib.Core.Bool.{Bool, not, _&&_}
+use mathlib.Core.List.{List}
+use Prim.Native.Nat.{ℕ, _<_}
 use lib.Dec.{eqb}
 use lib.ListN.{length}
 use borrow.Author.Tests.{not-true}
 use Rattle.lemmas.specs.Lists.{those}
+use Rattle.lemmas.proofs.Those.{as-many}
 use Rattle.lemmas.proofs.Tests.{not-both, not-true-false, and-intro, and-left, and-right}
 use Rattle.nodes.specs.Sets.{In, minus, members, gather}
 use Rattle.nodes.proofs.Bit.{in-minus, same-members, in-gather, gather-in}
@@ -22,19 +22,6 @@ use Rattle.rounds.specs.Ends.{calledIn, freeIn, heldIn}
 use Rattle.rounds.specs.History.{Event, since, ofRound, standing}
 use Rattle.demands.specs.Turns.{messagesOf, heldOn}
 use Rattle.demands.proofs.Stands.{Stands, read-back}
-
--- ---- those of a list that is mapped are as many as those of the list
-module _ {A B : Type 0} (p : B → Bool) (q : A → Bool) (f : A → B) where
-  as-many : (l : List A) → ((x : A) → List·Memᴰ x l → p (f x) ≡ q x) → length (those p (map f l)) ≡ length (those q l)
-  as-many [] h = refl
-  as-many (a ∷ l) h =
-      ap (λ (t : Bool). length (cond t (f a ∷ those p (map f l)) (those p (map f l)))) (h a (here refl))
-      ∙ go (q a) (as-many l (λ x i. h x (there i)))
-    where
-      go : (t : Bool) → length (those p (map f l)) ≡ length (those q l)
-          → length (cond t (f a ∷ those p (map f l)) (those p (map f l))) ≡ length (cond t (a ∷ those q l) (those q l))
-      go true e = ap suc e
-      go false e = e
 
 -- ---- the nodes that meet one test and not another: tested one by one, and set against set
 module _ (n : ℕ) (f g : ℕ → Bool) (p q : ℕ → Bool) (sf : (i : ℕ) → i < n → f i ≡ p i) (sg : (i : ℕ) → i < n → g i ≡ q i) where

@@ -1,12 +1,10 @@
 -- The verdicts that the turns of a bench gave are those of the rules' history. Assumes nothing.
 use mathlib.Core.Path.{_≡_, refl, sym, subst}
-use mathlib.Core.Bool.{Bool, true, false, cond}
+use mathlib.Core.Bool.{Bool, true, cond}
 use mathlib.Core.Logic.{_⊎_, inl, inr}
-use mathlib.Core.List.{List, [], _∷_, List·Memᴰ, List·Memᴰ·append-cases, Memᴰ·append-left, Memᴰ·append-right}
+use mathlib.Core.List.{List, [], _∷_, List·Memᴰ}
 use mathlib.Core.List.List·Memᴰ.{List·Memᴰ·head as here, List·Memᴰ·tail as there}
 use Prim.Native.Nat.{ℕ}
-use lib.Dec.{eqb}
-use borrow.Author.Tests.{eqb-true, eq-eqb}
 use Rattle.waits.specs.declared.numbers.Checked.the-variants.{Accepted}
 use Rattle.waits.specs.Waits.{Waits}
 use Rattle.waits.specs.Rows.{waitsOf}
@@ -17,39 +15,12 @@ use Rattle.bench.specs.Bench.{Bench, After, fresh}
 use Rattle.bench.specs.Steps.{stepOn}
 use Rattle.rounds.specs.Verdicts.{verdictIn}
 use Rattle.rounds.specs.History.{Event, roundOf, outcome, since, verdictsOf}
+use Rattle.rounds.proofs.Saying.{said-now, said-before, said-when}
 use Rattle.demands.specs.Turns.{Turn, turn, turns, afterSteps, accepted, eventOf, heard}
 use Rattle.demands.specs.Demands.{Gave}
 use Rattle.demands.proofs.Onward.{Onward, step-onward}
 use Rattle.demands.proofs.Onward.Onward.{refused, full, taken}
 use Rattle.demands.proofs.Heard.{outcome-accepted, all-stand}
-
--- ---- one event more
-module _ (w : Waits) (l : List Event) (e : Event) (round : ℕ) (v : Verdict) where
-  abbrev saying : List Verdict
-  saying = verdictIn (outcome w (since w l) e .answer)
-
-  says-it : roundOf e ≡ round → List·Memᴰ v saying → List·Memᴰ v (verdictsOf w round (e ∷ l))
-  unfolding verdictsOf
-  says-it q i = Memᴰ·append-left (verdictsOf w round l) (subst (λ (b : Bool). List·Memᴰ v (cond b saying [])) (sym (eq-eqb (roundOf e) round q)) i)
-
-  said-before : List·Memᴰ v (verdictsOf w round l) → List·Memᴰ v (verdictsOf w round (e ∷ l))
-  unfolding verdictsOf
-  said-before i = Memᴰ·append-right (cond (eqb (roundOf e) round) saying []) i
-
-  -- by the event, or before it
-  abbrev When : Type 0
-  When = ((roundOf e ≡ round) × List·Memᴰ v saying) ⊎ List·Memᴰ v (verdictsOf w round l)
-
-  said-when : List·Memᴰ v (verdictsOf w round (e ∷ l)) → When
-  unfolding verdictsOf
-  said-when i = elim (List·Memᴰ·append-cases (cond (eqb (roundOf e) round) saying []) i) [
-    | inl j ↦ go (eqb (roundOf e) round) refl j
-    | inr j ↦ inr j
-  ]
-    where
-      go : (b : Bool) → eqb (roundOf e) round ≡ b → List·Memᴰ v (cond b saying []) → When
-      go true q j = inl (eqb-true (roundOf e) round q, j)
-      go false q j = absurd (elim j [ ])
 
 -- ---- one step more: a refusal has no verdict
 module _ (n : ℕ) (rows : List ℕ) (l : List Event) (e : Event) (round : ℕ) (v : Verdict) where
@@ -66,18 +37,18 @@ module _ (n : ℕ) (rows : List ℕ) (l : List Event) (e : Event) (round : ℕ) 
   step-gives : {b : Bench} {a : After} → Onward n rows b l e a → roundOf e ≡ round → List·Memᴰ v (verdictIn (a .answer)) → Among (accepted (a .answer))
   step-gives (refused number h) q i = absurd (elim i [ ])
   step-gives (full h r) q i = absurd (elim i [ ])
-  step-gives (taken next s more same) q i = subst Among (sym now-accepted) (says-it w l e round v q i)
+  step-gives (taken next s more same) q i = subst Among (sym now-accepted) (said-now w round e l v q i)
 
   step-keeps : {b : Bench} {a : After} → Onward n rows b l e a → List·Memᴰ v (verdictsOf w round l) → Among (accepted (a .answer))
   step-keeps (refused number h) i = i
   step-keeps (full h r) i = i
-  step-keeps (taken next s more same) i = subst Among (sym now-accepted) (said-before w l e round v i)
+  step-keeps (taken next s more same) i = subst Among (sym now-accepted) (said-before w round e l v i)
 
   step-when : {b : Bench} {a : After} → Onward n rows b l e a → Among (accepted (a .answer))
       → ((roundOf e ≡ round) × List·Memᴰ v (verdictIn (a .answer))) ⊎ List·Memᴰ v (verdictsOf w round l)
   step-when (refused number h) i = inr i
   step-when (full h r) i = inr i
-  step-when (taken next s more same) i = said-when w l e round v (subst Among now-accepted i)
+  step-when (taken next s more same) i = said-when w round e l v (subst Among now-accepted i)
 
 -- ---- all steps from a fresh start
 module _ (n : ℕ) (rows messages : List ℕ) (ok : checkOf n rows ≡ Accepted) (round : ℕ) (v : Verdict) where

@@ -4,22 +4,23 @@
 use mathlib.Core.Path.{_≡_}
 use mathlib.Core.Bool.{true, false}
 use mathlib.Core.Logic.{_⊎_, _↔_}
-use mathlib.Core.List.{List, [], _∷_, map, reverse, List·Memᴰ}
+use mathlib.Core.List.{List, [], _∷_, _++_, map, reverse, List·Memᴰ}
 use Prim.Native.Nat.{ℕ, _+_, _*_, _≤_, _<_}
-use lib.ListN.{length, take}
-use Rattle.nodes.specs.Sets.{In}
+use lib.ListN.{length, take, drop}
+use Rattle.nodes.specs.Sets.{In, Inside, meet, size}
+use Rattle.nodes.specs.Words.{num}
 use Rattle.records.specs.declared.messages.Message.{Message}
 use Rattle.records.specs.Rounds.{lastRound, behind, ahead}
 use Rattle.records.specs.Records.{State}
 use Rattle.waits.specs.declared.numbers.Refusal.{Refusal}
 use Rattle.waits.specs.declared.numbers.Checked.the-variants.{Accepted, Refused}
-use Rattle.waits.specs.Waits.{Waits, edges}
+use Rattle.waits.specs.Waits.{Waits, inOf, edges}
 use Rattle.waits.specs.Deadlocked.{Deadlocked, Reachable, outside, passes}
-use Rattle.waits.specs.Rows.{waitsOf}
+use Rattle.waits.specs.Rows.{rowAt, setsOf, waitsOf}
 use Rattle.waits.specs.Numbers.{line, graphLines, checkOf, Gives}
 use Rattle.deadlock.specs.declared.claims.Claim.{Claim}
 use Rattle.deadlock.specs.declared.claims.Claim.the-variants.{Deadlocked as Claim·Deadlocked}
-use Rattle.deadlock.specs.declared.evidence.Written.the-variants.{Refused as Written·Refused}
+use Rattle.deadlock.specs.declared.evidence.Written.the-variants.{Bytes, Refused as Written·Refused}
 use Rattle.deadlock.specs.declared.evidence.Judged.the-variants.{Passes}
 use Rattle.deadlock.specs.Refusals.{strangeEntry, smallRoom, askedLines, checkNodeOf, checkListOf, checkRoomOf}
 use Rattle.deadlock.specs.Claims.{ClaimSays}
@@ -27,9 +28,9 @@ use Rattle.deadlock.specs.Evidence.{Evidence, WrittenSays, judgedOf}
 use Rattle.step.specs.declared.answers.Verdict.{Verdict}
 use Rattle.step.specs.declared.answers.Verdict.the-variants.{Deadlocked as Verdict·Deadlocked}
 use Rattle.step.specs.declared.answers.Answer.the-variants.{Refused as Answer·Refused}
-use Rattle.step.specs.Step.{still}
+use Rattle.step.specs.Step.{seenIn, still}
 use Rattle.node.specs.Refusals.{openLines, deliverLines}
-use Rattle.node.specs.Calls.{openOf, deliverOf}
+use Rattle.node.specs.Calls.{own, openOf, deliverOf}
 use Rattle.lent.specs.declared.steps.Step.{Step}
 use Rattle.lent.specs.Coded.{numberOf}
 use Rattle.lent.specs.Steps.{stepOf}
@@ -71,7 +72,11 @@ pub record Demand1 : Type 0 where
 
 -- Of node i of a graph.
 pub record Demand2 (n : ℕ) (rows : List ℕ) (i : ℕ) : Type 0 where
-  -- "A claim is called deadlocked exactly when, by the published AND-OR and P-out-of-Q rules, no order of granting ever frees it."
+  -- "A claim is called deadlocked exactly when, by the published AND-OR and P-out-of-Q rules, no order of granting ever frees it." The
+  -- rules: at least P of Q have granted; all of at least one nonempty set have.
+  pub p-of-q : (g : ℕ) → rowAt rows i .kind ≡ 1 → (waitsOf n rows .holds i g ≡ true) ↔ (rowAt rows i .threshold ≤ size (meet (num (rowAt rows i .first)) g))
+  pub and-or : (g : ℕ) → rowAt rows i .kind ≡ 2
+      → (waitsOf n rows .holds i g ≡ true) ↔ ((q : ℕ) × List·Memᴰ q (setsOf (rowAt rows i)) × (q ≡ 0 → ⊥) × Inside q g)
   pub claim : checkNodeOf n rows i ≡ Accepted → (c : Claim) → ClaimSays n rows i c → (c ≡ Claim·Deadlocked) ↔ Deadlocked (waitsOf n rows) i
   -- "A list offered as evidence passes exactly when it holds the claim asked about and the nodes outside it satisfy no member's
   -- condition."
@@ -130,9 +135,12 @@ module _ (n : ℕ) (rows messages : List ℕ) (steps : List Step) where
         → ((i : ℕ) → In i reachable ↔ Reachable w s i) → ((i : ℕ) → In i freed ↔ FreedFrom w s i)
         → length (messagesOf round now) ≡ 2 * leaving w reachable + 2 * entering w freed
     pub evidence : (s : ℕ) → Opened s (now .highest) → Gave (now .highest) Verdict·Deadlocked → Evidence w s (heldOn n now)
+        × ((found left : List ℕ) (k : ℕ) → WrittenSays n rows s found left (Bytes k) → left ≡ heldOn n now ++ drop k found)
     -- The paper: while 4 times edges times rounds opened (this one included) is within the room, 12 can't occur.
     pub room-enough : (x : Step) → 4 * edges w * openings (eventOf (turn n rows now x) ∷ heard past) ≤ room now
         → stepOn n rows now x .answer ≡ Answer·Refused (refusal 12) → ⊥
+    -- The paper: one controller by itself, told its row and its IN, sees what its node of the graph sees, and so does the same.
+    pub alone : (i : ℕ) (row : List ℕ) → rowAt row 0 ≡ rowAt rows i → own i row (inOf w i) ≡ seenIn w i
     -- The paper: a list of steps answers as its steps taken singly do.
     pub as-a-list : (l : List ℕ) → (runOn n rows now l ≡ afterSteps n rows now (reverse (map stepOf l)))
         × (answersOn n rows now l ≡ reverse (map (λ t. said (stepOn n rows (t .on) (t .step))) (turns n rows now (reverse (map stepOf l)))))

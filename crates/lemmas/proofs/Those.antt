@@ -1,7 +1,7 @@
 -- Those of a list that meet a test: what is in them, how they are put together, and how many there are. Assumes nothing.
 use mathlib.Core.Path.{_≡_, refl, sym, ap, _∙_}
 use mathlib.Core.Bool.{Bool, true, false, cond}
-use mathlib.Core.List.{List, [], _∷_, _++_, List·Memᴰ}
+use mathlib.Core.List.{List, [], _∷_, _++_, map, List·Memᴰ}
 use mathlib.Core.List.List·Memᴰ.{List·Memᴰ·head as here, List·Memᴰ·tail as there}
 use Prim.Native.Nat.{ℕ, suc, _+_, _*_, _≤_}
 use native.Mathlib.Nat.{mul-suc}
@@ -55,6 +55,19 @@ module _ {A : Type 0} (p : A → Bool) where
       kept false n = n
 
 -- ---- how many there are
+-- of a list that is mapped there are as many as of the list, where the tests say the same
+module _ {A B : Type 0} (p : B → Bool) (q : A → Bool) (f : A → B) where
+  pub as-many : (l : List A) → ((x : A) → List·Memᴰ x l → p (f x) ≡ q x) → length (those p (map f l)) ≡ length (those q l)
+  as-many [] h = refl
+  as-many (a ∷ l) h =
+      ap (λ (t : Bool). length (cond t (f a ∷ those p (map f l)) (those p (map f l)))) (h a (here refl))
+      ∙ go (q a) (as-many l (λ x i. h x (there i)))
+    where
+      go : (t : Bool) → length (those p (map f l)) ≡ length (those q l)
+          → length (cond t (f a ∷ those p (map f l)) (those p (map f l))) ≡ length (cond t (a ∷ those q l) (those q l))
+      go true e = ap suc e
+      go false e = e
+
 total-most : (g : ℕ → ℕ) (k : ℕ) → ((r : ℕ) → g r ≤ k) → (l : List ℕ) → total g l ≤ k * length l
 total-most g k h [] = omega arith
 total-most g k h (r ∷ l) =

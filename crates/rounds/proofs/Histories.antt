@@ -21,7 +21,8 @@ use Rattle.rounds.specs.History.{Event, roundOf, since, highestIn, Histo
 use Rattle.rounds.proofs.Put.{put-all}
 use Rattle.rounds.proofs.Effects.{sentBy, Effect, open-effect, receive-effect}
 use Rattle.rounds.proofs.Running.{Runs, other-runs, opening-runs, message-runs}
-use Rattle.rounds.proofs.Told.{AsCourse, Told, messageIn, opened-before, arrived-before, opened-now, said-own, said-else, said-nothing}
+use Rattle.rounds.proofs.Saying.{said-own, said-else, said-nothing}
+use Rattle.rounds.proofs.Told.{AsCourse, Told, same-message, opened-before, arrived-before, opened-now}
 
 -- ---- a round is opened
 module _ {w : Waits} {l : List Event} (told : Told w l) (i round : ℕ) (node : i < w .nodes) (above : highestIn l < round) where
@@ -129,7 +130,7 @@ module _ {w : Waits} (lawful : Lawful w) {l : List Event} (told : Told w l) (m :
       }
     where
       not-it : (x : Letter) → (x ≡ m → ⊥) → List·Memᴰ (Event.arrives x) (arrival ∷ l) → List·Memᴰ (Event.arrives x) l
-      not-it x n (here q) = absurd (n (ap (messageIn m) q))
+      not-it x n (here q) = absurd (n (same-message q))
       not-it x n (there h) = h
 
   its-course : (s r : ℕ) → Opened l s r → m .round ≡ r → AsCourse w (arrival ∷ l) s r
@@ -147,7 +148,7 @@ module _ {w : Waits} (lawful : Lawful w) {l : List Event} (told : Told w l) (m :
           → (since w l .records (m .to) .round ≤ r → List·Memᴰ m k) → (List·Memᴰ (Event.arrives x) l → List·Memᴰ x d) → r ≡ highestIn l
           → List·Memᴰ (Event.arrives x) (arrival ∷ l) → List·Memᴰ x k
       all-heard k {x} keeps this older top (here e) =
-          subst (λ (y : Letter). List·Memᴰ y k) (sym (ap (messageIn m) e)) (this (omega (arith, told .low (m .to), top)))
+          subst (λ (y : Letter). List·Memᴰ y k) (sym (same-message e)) (this (omega (arith, told .low (m .to), top)))
       all-heard k {x} keeps this older top (there h) = keeps x (older h)
 
   pub arrival-told : Told w (arrival ∷ l)

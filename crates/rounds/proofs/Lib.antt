@@ -21,6 +21,7 @@ pub mod Shortcuts
 pub mod OldRounds
 pub mod Effects
 pub mod Running
+pub mod Saying
 pub mod Told
 pub mod Histories
 pub mod ManyRounds

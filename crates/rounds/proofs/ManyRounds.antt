@@ -6,7 +6,6 @@ use mathlib.Core.Logic.{_↔_}
 use mathlib.Core.List.{List, [], _∷_, List·Memᴰ}
 use mathlib.Core.List.List·Memᴰ.{List·Memᴰ·head as here, List·Memᴰ·tail as there}
 use Prim.Native.Nat.{ℕ, suc, _+_, _*_, _≤_}
-use native.Mathlib.Decide.{ℕ-discrete}
 use native.Mathlib.Omega.{arith}
 use lib.Dec.{eqb}
 use lib.ListN.{length}
@@ -24,10 +23,11 @@ use Rattle.rounds.specs.Course.{Stage, after, AllDelivered, ended}
 use Rattle.rounds.specs.Verdicts.{verdicts}
 use Rattle.rounds.specs.Ends.{heldIn, FreedFrom, leaving, entering}
 use Rattle.rounds.specs.OneRound.{OneRound}
-use Rattle.rounds.specs.History.{Event, roundOf, since, highestIn, History, openings, Opened, ofRound, verdictsOf, standing, AllArrived}
+use Rattle.rounds.specs.History.{Event, since, highestIn, History, openings, Opened, ofRound, verdictsOf, standing, AllArrived}
 use Rattle.rounds.specs.ManyRounds.{ManyRounds}
 use Rattle.rounds.proofs.OneRound.{one-round}
-use Rattle.rounds.proofs.Told.{AsCourse, Told, said-else}
+use Rattle.rounds.proofs.Saying.{said-by}
+use Rattle.rounds.proofs.Told.{AsCourse, Told}
 use Rattle.rounds.proofs.Histories.{history-told}
 
 -- ---- the rounds that were opened
@@ -55,15 +55,6 @@ rounds-listed (Event.opens i round ∷ l) e (here q) = subst (Listed (round ∷ 
 rounds-listed (Event.opens i round ∷ l) e (there m) = listed-on round (rounds l) e (rounds-listed l e m)
 rounds-listed (Event.arrives m ∷ l) e (here q) = subst (Listed (rounds l)) (sym q) tt
 rounds-listed (Event.arrives x ∷ l) e (there m) = rounds-listed l e m
-
--- what is said in a round is said by an event of it
-said-by : (w : Waits) (round : ℕ) (l : List Event) (v : Verdict) → List·Memᴰ v (verdictsOf w round l) → (e : Event) × List·Memᴰ e l × (roundOf e ≡ round)
-unfolding verdictsOf
-said-by w round [] v m = absurd (elim m [ ])
-said-by w round (e ∷ l) v m = elim (ℕ-discrete (roundOf e) round) [
-  | yes q ↦ (e, here refl, q)
-  | no d ↦ let r = said-by w round l v (subst (λ (x : List Verdict). List·Memᴰ v x) (said-else w round e l d) m) in (r .0, there (r .1), r .2)
-]
 
 -- ---- lists of verdicts
 only-one : (l : List Verdict) → length l ≡ 1 → (v : Verdict) × (l ≡ v ∷ [])
@@ -177,6 +168,7 @@ module _ (w : Waits) (lawful : Lawful w) (l : List Event) (history : History w l
   pub many-rounds : ManyRounds w l
   many-rounds = record {
     one-opener = told .one-opener;
+    higher = λ s round o. told .events-low (Event.opens s round) o;
     sent-opened = told .sent-opened;
     said-opened = said-opened;
     verdict-right = λ s round o v m. right s round o .verdict-right v (in-course s round o v m);

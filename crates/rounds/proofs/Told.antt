@@ -1,15 +1,13 @@
 -- What is known of every history: its rounds go up, each was opened by one node, and each is a course of its own. Assumes nothing.
-use mathlib.Core.Path.{_≡_, refl, sym, ap, _∙_}
-use mathlib.Core.Bool.{Bool, true, false, cond, true≢false}
+use mathlib.Core.Path.{_≡_, sym, ap}
 use mathlib.Core.Logic.{_⊎_, inl, inr}
-use mathlib.Core.List.{List, [], _∷_, _++_, List·Memᴰ}
+use mathlib.Core.List.{List, _∷_, List·Memᴰ}
 use mathlib.Core.List.List·Memᴰ.{List·Memᴰ·head as here, List·Memᴰ·tail as there}
 use Prim.Native.Nat.{ℕ, _≤_, _<_}
-use borrow.Author.Tests.{eq-eqb, ne-eqb}
+use native.Mathlib.Omega.{arith}
 use Rattle.records.specs.Messages.{Letter}
 use Rattle.waits.specs.Waits.{Waits}
-use Rattle.rounds.specs.Verdicts.{verdictIn}
-use Rattle.rounds.specs.History.{Event, nodeOf, roundOf, outcome, since, highestIn, Opened, verdictsOf}
+use Rattle.rounds.specs.History.{Event, nodeOf, roundOf, since, highestIn, Opened, verdictsOf}
 use Rattle.rounds.proofs.Running.{Runs}
 
 -- A round that s opened is a course of it; and if it is the newest, every message of it that has arrived is in the course.
@@ -28,37 +26,20 @@ pub record Told (w : Waits) (l : List Event) : Type 0 where
   pub courses : (s round : ℕ) → Opened l s round → AsCourse w l s round
 
 -- ---- telling events apart
-abbrev isOpening : Event → Bool
-isOpening (Event.opens i round) = true
-isOpening (Event.arrives m) = false
+pub events-apart : {m : Letter} {s round : ℕ} → Event.arrives m ≡ Event.opens s round → ⊥
+events-apart e = let z : _≡_ {A = ℕ} 0 1 = cc e in omega arith
 
-abbrev pub messageIn : Letter → Event → Letter
-messageIn x (Event.opens i round) = x
-messageIn x (Event.arrives m) = m
+pub same-message : {m x : Letter} → Event.arrives m ≡ Event.arrives x → m ≡ x
+same-message e = cc e
 
 pub opened-before : {m : Letter} {l : List Event} {s round : ℕ} → Opened (Event.arrives m ∷ l) s round → Opened l s round
-opened-before (here q) = absurd (true≢false (ap isOpening q))
+opened-before (here q) = absurd (events-apart (sym q))
 opened-before (there h) = h
 
 pub arrived-before : {i r : ℕ} {l : List Event} {m : Letter} → List·Memᴰ (Event.arrives m) (Event.opens i r ∷ l) → List·Memᴰ (Event.arrives m) l
-arrived-before (here q) = absurd (true≢false (ap isOpening (sym q)))
+arrived-before (here q) = absurd (events-apart q)
 arrived-before (there h) = h
 
 pub opened-now : {i r s round : ℕ} {l : List Event} → Opened (Event.opens i r ∷ l) s round → ((s ≡ i) × (round ≡ r)) ⊎ Opened l s round
 opened-now (here q) = inl (ap nodeOf q, ap roundOf q)
 opened-now (there h) = inr h
-
--- ---- what was said in a round
-module _ (w : Waits) (round : ℕ) (e : Event) (l : List Event) where
-  pub said-own : roundOf e ≡ round → verdictsOf w round (e ∷ l) ≡ verdictIn (outcome w (since w l) e .answer) ++ verdictsOf w round l
-  unfolding verdictsOf
-  said-own q = ap (λ (b : Bool). cond b (verdictIn (outcome w (since w l) e .answer)) [] ++ verdictsOf w round l) (eq-eqb (roundOf e) round q)
-
-  pub said-else : (roundOf e ≡ round → ⊥) → verdictsOf w round (e ∷ l) ≡ verdictsOf w round l
-  unfolding verdictsOf
-  said-else d = ap (λ (b : Bool). cond b (verdictIn (outcome w (since w l) e .answer)) [] ++ verdictsOf w round l) (ne-eqb (roundOf e) round d)
-
-pub said-nothing : (w : Waits) (round : ℕ) (l : List Event) → ((e : Event) → List·Memᴰ e l → roundOf e ≡ round → ⊥) → verdictsOf w round l ≡ []
-unfolding verdictsOf
-said-nothing w round [] h = refl
-said-nothing w round (e ∷ l) h = said-else w round e l (h e (here refl)) ∙ said-nothing w round l (λ x m. h x (there m))

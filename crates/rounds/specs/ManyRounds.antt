@@ -16,8 +16,9 @@ use Rattle.rounds.specs.Ends.{heldIn, FreedFrom, leaving, entering}
 use Rattle.rounds.specs.History.{highestIn, openings, since, Event, Opened, ofRound, verdictsOf, standing, AllArrived}
 
 pub record ManyRounds (w : Waits) (l : List Event) : Type 0 where
-  -- A round is opened by one node, before any message is sent in it or anything is said in it.
+  -- A round is opened by one node, before any message is sent in it or anything is said in it, and the newest is the highest.
   pub one-opener : (s t round : ℕ) → Opened l s round → Opened l t round → s ≡ t
+  pub higher : (s round : ℕ) → Opened l s round → round ≤ highestIn l
   pub sent-opened : (m : Letter) → List·Memᴰ m (since w l .sent) → (s : ℕ) × Opened l s (m .round)
   pub said-opened : (round : ℕ) (v : Verdict) → List·Memᴰ v (verdictsOf w round l) → (s : ℕ) × Opened l s round
   -- No round ever gives a false verdict, nor more than one.

@@ -1,0 +1,63 @@
+-- What is said in a round, event by event. Assumes nothing.
+use mathlib.Core.Path.{_≡_, refl, sym, ap, _∙_, subst}
+use mathlib.Core.Bool.{Bool, cond}
+use mathlib.Core.Logic.{_⊎_, inl, inr}
+use mathlib.Core.List.{List, [], _∷_, _++_, List·Memᴰ, List·Memᴰ·append-cases, Memᴰ·append-left, Memᴰ·append-right}
+use mathlib.Core.List.List·Memᴰ.{List·Memᴰ·head as here, List·Memᴰ·tail as there}
+use Prim.Native.Nat.{ℕ}
+use native.Mathlib.Decide.{ℕ-discrete}
+use lib.Dec.{eqb}
+use borrow.Author.Tests.{eq-eqb, ne-eqb}
+use Rattle.waits.specs.Waits.{Waits}
+use Rattle.step.specs.declared.answers.Verdict.{Verdict}
+use Rattle.rounds.specs.Verdicts.{verdictIn}
+use Rattle.rounds.specs.History.{Event, roundOf, outcome, since, verdictsOf}
+
+module _ (w : Waits) (round : ℕ) (e : Event) (l : List Event) where
+  -- what the event says
+  abbrev saying : List Verdict
+  saying = verdictIn (outcome w (since w l) e .answer)
+
+  -- an event of the round, and one of another
+  pub said-own : roundOf e ≡ round → verdictsOf w round (e ∷ l) ≡ saying ++ verdictsOf w round l
+  unfolding verdictsOf
+  said-own q = ap (λ (b : Bool). cond b saying [] ++ verdictsOf w round l) (eq-eqb (roundOf e) round q)
+
+  pub said-else : (roundOf e ≡ round → ⊥) → verdictsOf w round (e ∷ l) ≡ verdictsOf w round l
+  unfolding verdictsOf
+  said-else d = ap (λ (b : Bool). cond b saying [] ++ verdictsOf w round l) (ne-eqb (roundOf e) round d)
+
+  -- a verdict is given by the event, if it is of the round, or was given before
+  module _ (v : Verdict) where
+    pub said-now : roundOf e ≡ round → List·Memᴰ v saying → List·Memᴰ v (verdictsOf w round (e ∷ l))
+    said-now q i = subst (λ (x : List Verdict). List·Memᴰ v x) (sym (said-own q)) (Memᴰ·append-left (verdictsOf w round l) i)
+
+    pub said-before : List·Memᴰ v (verdictsOf w round l) → List·Memᴰ v (verdictsOf w round (e ∷ l))
+    unfolding verdictsOf
+    said-before i = Memᴰ·append-right (cond (eqb (roundOf e) round) saying []) i
+
+    pub said-when : List·Memᴰ v (verdictsOf w round (e ∷ l)) → ((roundOf e ≡ round) × List·Memᴰ v saying) ⊎ List·Memᴰ v (verdictsOf w round l)
+    said-when i = elim (ℕ-discrete (roundOf e) round) [
+      | yes q ↦ elim (List·Memᴰ·append-cases saying (subst (λ (x : List Verdict). List·Memᴰ v x) (said-own q) i)) [
+        | inl j ↦ inl (q, j)
+        | inr j ↦ inr j
+      ]
+      | no d ↦ inr (subst (λ (x : List Verdict). List·Memᴰ v x) (said-else d) i)
+    ]
+
+-- a round of which there is no event
+pub said-nothing : (w : Waits) (round : ℕ) (l : List Event) → ((e : Event) → List·Memᴰ e l → roundOf e ≡ round → ⊥) → verdictsOf w round l ≡ []
+unfolding verdictsOf
+said-nothing w round [] h = refl
+said-nothing w round (e ∷ l) h = said-else w round e l (h e (here refl)) ∙ said-nothing w round l (λ x m. h x (there m))
+
+-- what is said in a round is said by an event of it
+pub said-by : (w : Waits) (round : ℕ) (l : List Event) (v : Verdict) → List·Memᴰ v (verdictsOf w round l) → (e : Event) × List·Memᴰ e l × (roundOf e ≡ round)
+unfolding verdictsOf
+said-by w round [] v m = absurd (elim m [ ])
+said-by w round (e ∷ l) v m =
+    let ih = said-by w round l v in
+    elim (said-when w round e l v m) [
+      | inl p ↦ (e, here refl, p .0)
+      | inr j ↦ let r = ih j in (r .0, there (r .1), r .2)
+    ]
