@@ -24,17 +24,17 @@ use Rattle.demands.proofs.Rounds.{as-numbers, opens, opens-only, stands
 
 pub demand-1 : Demand1
 demand-1 = record {
-  graph = check-refused;
-  claim = claim-gives;
-  list = λ n rows i l r. list-gives n rows i r l;
-  room = λ n rows i bytes r. room-gives n rows i r bytes;
-  controller-opens = open-gives;
-  controller-delivers = deliver-gives;
-  step = step-gives;
-  run = run-gives;
+  graph-refused = check-refused;
+  claim-refused = claim-gives;
+  list-refused = λ n rows i l r. list-gives n rows i r l;
+  room-refused = λ n rows i bytes r. room-gives n rows i r bytes;
+  opening-refused = open-gives;
+  delivery-refused = deliver-gives;
+  step-refused = step-gives;
+  run-refused = run-gives;
   bytes-left = λ n rows i found left r s. s .1;
-  opens-left = open-left;
-  delivers-left = deliver-left;
+  opening-left = open-left;
+  delivery-left = deliver-left;
   step-left = step-left;
   run-left = run-left;
 }

@@ -47,24 +47,24 @@ use Rattle.demands.specs.Refusals.{stepLines, runLines}
 -- outside has a `requires`, and every function is proved to end safely: the checker shows that of the code itself.
 pub record Demand1 : Type 0 where
   -- "Bad input gets its refusal number from your paper": that of the first line of its table that says so, and only then.
-  pub graph : (n : ℕ) (rows : List ℕ) (r : Refusal) → (checkOf n rows ≡ Refused r) ↔ Gives (graphLines n rows) r
-  pub claim : (n : ℕ) (rows : List ℕ) (i : ℕ) (r : Refusal) → (checkNodeOf n rows i ≡ Refused r) ↔ Gives (askedLines n rows i []) r
-  pub list : (n : ℕ) (rows : List ℕ) (i : ℕ) (l : List ℕ) (r : Refusal)
+  pub graph-refused : (n : ℕ) (rows : List ℕ) (r : Refusal) → (checkOf n rows ≡ Refused r) ↔ Gives (graphLines n rows) r
+  pub claim-refused : (n : ℕ) (rows : List ℕ) (i : ℕ) (r : Refusal) → (checkNodeOf n rows i ≡ Refused r) ↔ Gives (askedLines n rows i []) r
+  pub list-refused : (n : ℕ) (rows : List ℕ) (i : ℕ) (l : List ℕ) (r : Refusal)
       → (checkListOf n rows i l ≡ Refused r) ↔ Gives (askedLines n rows i (line 14 0 (strangeEntry n l) ∷ [])) r
-  pub room : (n : ℕ) (rows : List ℕ) (i bytes : ℕ) (r : Refusal)
+  pub room-refused : (n : ℕ) (rows : List ℕ) (i bytes : ℕ) (r : Refusal)
       → (checkRoomOf n rows i bytes ≡ Refused r) ↔ Gives (askedLines n rows i (line 15 0 (smallRoom n bytes) ∷ [])) r
-  pub controller-opens : (n me : ℕ) (row : List ℕ) (ins : ℕ) (s : State) (round : ℕ) (r : Refusal)
+  pub opening-refused : (n me : ℕ) (row : List ℕ) (ins : ℕ) (s : State) (round : ℕ) (r : Refusal)
       → (openOf n me row ins s round .answer ≡ Answer·Refused r) ↔ Gives (openLines n me row ins s round) r
-  pub controller-delivers : (n me : ℕ) (row : List ℕ) (ins : ℕ) (s : State) (m : Message) (r : Refusal)
+  pub delivery-refused : (n me : ℕ) (row : List ℕ) (ins : ℕ) (s : State) (m : Message) (r : Refusal)
       → (deliverOf n me row ins s m .answer ≡ Answer·Refused r) ↔ Gives (deliverLines n me row ins s m) r
-  pub step : (n : ℕ) (rows : List ℕ) (b : Bench) (x : Step) (r : Refusal) → (stepOn n rows b x .answer ≡ Answer·Refused r) ↔ Gives (stepLines n rows b x) r
-  pub run : (n : ℕ) (rows : List ℕ) (b : Bench) (steps answers : List ℕ) (r : Refusal)
+  pub step-refused : (n : ℕ) (rows : List ℕ) (b : Bench) (x : Step) (r : Refusal) → (stepOn n rows b x .answer ≡ Answer·Refused r) ↔ Gives (stepLines n rows b x) r
+  pub run-refused : (n : ℕ) (rows : List ℕ) (b : Bench) (steps answers : List ℕ) (r : Refusal)
       → (runOf n rows b steps answers .checked ≡ Refused r) ↔ Gives (runLines n rows b steps answers) r
   -- "and a refused call leaves everything lent exactly as found."
   pub bytes-left : (n : ℕ) (rows : List ℕ) (i : ℕ) (found left : List ℕ) (r : Refusal) → WrittenSays n rows i found left (Written·Refused r) → left ≡ found
-  pub opens-left : (n me : ℕ) (row : List ℕ) (ins : ℕ) (s : State) (round : ℕ) (r : Refusal)
+  pub opening-left : (n me : ℕ) (row : List ℕ) (ins : ℕ) (s : State) (round : ℕ) (r : Refusal)
       → openOf n me row ins s round .answer ≡ Answer·Refused r → openOf n me row ins s round ≡ still s (Answer·Refused r)
-  pub delivers-left : (n me : ℕ) (row : List ℕ) (ins : ℕ) (s : State) (m : Message) (r : Refusal)
+  pub delivery-left : (n me : ℕ) (row : List ℕ) (ins : ℕ) (s : State) (m : Message) (r : Refusal)
       → deliverOf n me row ins s m .answer ≡ Answer·Refused r → deliverOf n me row ins s m ≡ still s (Answer·Refused r)
   pub step-left : (n : ℕ) (rows : List ℕ) (b : Bench) (x : Step) (r : Refusal) → stepOn n rows b x .answer ≡ Answer·Refused r → stepOn n rows b x .bench ≡ b
   pub run-left : (n : ℕ) (rows : List ℕ) (b : Bench) (steps answers : List ℕ) (r : Refusal)

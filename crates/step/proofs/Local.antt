@@ -134,11 +134,11 @@ module _ (o : Seen) (r : State) (m : Letter) where
 
   pub not-old : behind (m .round) (r .round) ≡ false → receive o r m ≡ arrive o r now m
   unfolding receive
-  not-old e = ap (λ (b : Bool). cond b (still r Old) (arrive o r now m)) e
+  not-old e = rw e refl
 
   pub old : behind (m .round) (r .round) ≡ true → receive o r m ≡ still r Old
   unfolding receive
-  old e = ap (λ (b : Bool). cond b (still r Old) (arrive o r now m)) e
+  old e = rw e refl
 
   pub arrives : {a b : Bool} → stray o now m ≡ a → has (hadOf (m .kind) now) (m .from) ≡ b
       → arrive o r now m ≡ cond a (still r Stray) (cond b (still r Repeat) (take o now m))
