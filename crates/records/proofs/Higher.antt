@@ -26,7 +26,7 @@ higher : (round own : ℕ) → ahead round own ≡ ltb own round
 higher round own = by-test round own (ltb round own) refl
 
 -- and behind exactly if it is the lower one
-pub lower : (round own : ℕ) → behind round own ≡ ltb round own
+lower : (round own : ℕ) → behind round own ≡ ltb round own
 unfolding behind compareOf
 lower round own = go (ltb round own) (ltb own round)
   where
@@ -41,6 +41,9 @@ behind-iff round own = (λ e. ltb-true round own (sym (lower round own) ∙ e), 
 
 pub ahead-iff : (round own : ℕ) → (ahead round own ≡ true) ↔ (own < round)
 ahead-iff round own = (λ e. ltb-true own round (sym (higher round own) ∙ e), λ h. higher round own ∙ lt-ltb own round h)
+
+pub not-behind : (round own : ℕ) → behind round own ≡ false → own ≤ round
+not-behind round own e = ltb-false round own (sym (lower round own) ∙ e)
 
 pub not-ahead-itself : (round : ℕ) → ahead round round ≡ false
 not-ahead-itself round = higher round round ∙ le-ltb round round (omega arith)
@@ -93,12 +96,9 @@ module _ (m : ℕ) (r : State) where
   pub in-round-at : behind m (r .round) ≡ false → inRound m r .round ≡ m
   in-round-at e = at (ahead m (r .round)) refl
     where
-      above : r .round ≤ m
-      above = ltb-false m (r .round) (sym (lower m (r .round)) ∙ e)
-
       at : (b : Bool) → ahead m (r .round) ≡ b → inRound m r .round ≡ m
       at true f = in-round-as true f
-      at false f = in-round-as false f ∙ (let h = ltb-false (r .round) m (sym (higher m (r .round)) ∙ f) in omega (arith, above))
+      at false f = in-round-as false f ∙ (let h = ltb-false (r .round) m (sym (higher m (r .round)) ∙ f) in omega (arith, not-behind m (r .round) e))
 
   -- one that is in a lower round is blank
   pub in-round-blank : r .round < m → inRound m r ≡ blankOf m

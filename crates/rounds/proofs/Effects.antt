@@ -4,11 +4,10 @@ use mathlib.Core.Logic.{_⊎_, inl, inr}
 use mathlib.Core.List.{List, [], _++_, append-nil, List·Memᴰ}
 use Prim.Native.Nat.{ℕ, _≤_, _<_}
 use native.Mathlib.Omega.{arith}
-use borrow.Author.Tests.{ltb-false}
 use Rattle.nodes.specs.Sets.{membersFrom, members}
 use Rattle.records.specs.Messages.{Letter}
 use Rattle.records.specs.Records.{State, inRound}
-use Rattle.records.proofs.Higher.{lower, in-round-at}
+use Rattle.records.proofs.Higher.{not-behind, in-round-at}
 use Rattle.records.proofs.Marks.{mark-round}
 use Rattle.waits.specs.Waits.{Waits}
 use Rattle.step.specs.declared.answers.Answer.{Answer}
@@ -62,7 +61,6 @@ module _ (w : Waits) (r : State) (m : Letter) where
     | inl t ↦
         let now = inRound (m .round) r in
         let at = take-follows (seenIn w (m .to)) now m .round ∙ mark-round (m .from) now (m .kind) ∙ in-round-at (m .round) r (t .2) in
-        let low : r .round ≤ m .round = ltb-false (m .round) (r .round) (sym (lower (m .round) (r .round)) ∙ t .2) in
-        subst (Effect (m .round) (m .to) r) (sym (t .0)) (record { letters = in-round-letters (m .round) (m .to) (take (seenIn w (m .to)) now m) at; state = inr (at, low) })
+        subst (Effect (m .round) (m .to) r) (sym (t .0)) (record { letters = in-round-letters (m .round) (m .to) (take (seenIn w (m .to)) now m) at; state = inr (at, not-behind (m .round) (r .round) (t .2)) })
     | inr t ↦ subst (Effect (m .round) (m .to) r) (sym (t .1)) (stays-effect (t .0))
   ]

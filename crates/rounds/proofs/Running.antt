@@ -8,7 +8,7 @@ use mathlib.Core.List.List·Memᴰ.{List·Memᴰ·head as here, List·Memᴰ·ta
 use Prim.Native.Nat.{ℕ, _≤_, _<_}
 use native.Mathlib.Omega.{arith}
 use lib.Dec.{eqb}
-use borrow.Author.Tests.{eq-eqb, ne-eqb, ltb-false}
+use borrow.Author.Tests.{eq-eqb, ne-eqb}
 use Rattle.lemmas.proofs.Those.{those-append, those-all, those-none, those-in}
 use Rattle.lemmas.proofs.Tests.{true-or-false}
 use Rattle.nodes.specs.Sets.{In, has}
@@ -16,7 +16,7 @@ use Rattle.nodes.proofs.Bit.{in-has}
 use Rattle.records.specs.Messages.{Letter}
 use Rattle.records.specs.Rounds.{behind}
 use Rattle.records.specs.Records.{State, inRound, hadOf}
-use Rattle.records.proofs.Higher.{lower, behind-iff, in-round-stays, in-round-blank}
+use Rattle.records.proofs.Higher.{behind-iff, not-behind, in-round-stays, in-round-blank}
 use Rattle.records.proofs.Marks.{mark-round}
 use Rattle.waits.specs.Waits.{Waits, Lawful}
 use Rattle.step.specs.declared.answers.Verdict.{Verdict}
@@ -126,7 +126,7 @@ module _ {w : Waits} (lawful : Lawful w) {c : Stage} {said : List Verdict} {s ro
   -- the node hasn't gone past the round, and its record in it is the course's
   module _ (now : behind (m .round) (r .round) ≡ false) where
     low : r .round ≤ round
-    low = let h = ltb-false (m .round) (r .round) (sym (lower (m .round) (r .round)) ∙ now) in omega arith
+    low = omega (arith, not-behind (m .round) (r .round) now)
 
     same : inRound (m .round) r ≡ d .records (m .to)
     same = ap (λ (x : ℕ). inRound x r) at ∙ runs .kept (m .to) low
