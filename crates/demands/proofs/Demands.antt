@@ -70,8 +70,9 @@ demand-3 n rows messages steps ok =
       at-most-four = λ round. subst (λ (x : ℕ). x ≤ 4 * edges w) (sym (round-count st round)) (all .at-most-four round);
       by-rules = (st .history, st .messages);
       count = sent-count st;
-      count-exactly = λ s round v o g reachable freed f h.
-          round-count st round ∙ all .count-exactly s round (heard-as s round o) v (gave-said n rows messages ok round v steps g) reachable freed f h;
+      count-exactly = λ s round v o g.
+          let c = all .count-exactly s round (heard-as s round o) v (gave-said n rows messages ok round v steps g) in
+          (c .0, c .1, c .2, c .3, round-count st round ∙ c .4);
       evidence = evidence n rows messages steps ok;
       room-enough = room-enough n rows messages steps ok;
       alone = λ i row e. own-seen n i row (inOf w i) rows e refl;

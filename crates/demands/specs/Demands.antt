@@ -131,9 +131,9 @@ module _ (n : ℕ) (rows messages : List ℕ) (steps : List Step) where
     pub by-rules : History w (heard past) × (take (now .sent) (now .messages) ≡ map numberOf (since w (heard past) .sent))
     pub count : now .sent ≡ length (since w (heard past) .sent)
     -- The paper: what a round that has ended has sent; and its evidence, if it ended deadlocked and no later round has been opened.
-    pub count-exactly : (s round : ℕ) (v : Verdict) → Opened s round → Gave round v → (reachable freed : ℕ)
-        → ((i : ℕ) → In i reachable ↔ Reachable w s i) → ((i : ℕ) → In i freed ↔ FreedFrom w s i)
-        → length (messagesOf round now) ≡ 2 * leaving w reachable + 2 * entering w freed
+    pub count-exactly : (s round : ℕ) (v : Verdict) → Opened s round → Gave round v → (reachable : ℕ) × (freed : ℕ)
+        × ((i : ℕ) → In i reachable ↔ Reachable w s i) × ((i : ℕ) → In i freed ↔ FreedFrom w s i)
+        × (length (messagesOf round now) ≡ 2 * leaving w reachable + 2 * entering w freed)
     pub evidence : (s : ℕ) → Opened s (now .highest) → Gave (now .highest) Verdict·Deadlocked → Evidence w s (heldOn n now)
         × ((found left : List ℕ) (k : ℕ) → WrittenSays n rows s found left (Bytes k) → left ≡ heldOn n now ++ drop k found)
     -- The paper: while 4 times edges times rounds opened (this one included) is within the room, 12 can't occur.

@@ -17,14 +17,17 @@ use Rattle.records.specs.Messages.{Letter}
 use Rattle.waits.specs.Waits.{Waits, Lawful, edges}
 use Rattle.waits.specs.Deadlocked.{Reachable}
 use Rattle.deadlock.specs.Evidence.{Evidence}
+use Rattle.deadlock.proofs.Paths.{reachable-node}
 use Rattle.step.specs.declared.answers.Verdict.{Verdict}
 use Rattle.step.specs.declared.answers.Verdict.the-variants.{Deadlocked}
 use Rattle.rounds.specs.Course.{Stage, after, AllDelivered, ended}
 use Rattle.rounds.specs.Verdicts.{verdicts}
-use Rattle.rounds.specs.Ends.{heldIn, FreedFrom, leaving, entering}
+use Rattle.rounds.specs.Ends.{calledIn, freeIn, heldIn, FreedFrom, leaving, entering}
 use Rattle.rounds.specs.OneRound.{OneRound}
 use Rattle.rounds.specs.History.{Event, since, highestIn, History, openings, Opened, ofRound, verdictsOf, standing, AllArrived}
 use Rattle.rounds.specs.ManyRounds.{ManyRounds}
+use Rattle.rounds.proofs.Ended.{reduction-node}
+use Rattle.rounds.proofs.Sets.{in-called, in-free}
 use Rattle.rounds.proofs.OneRound.{one-round}
 use Rattle.rounds.proofs.Saying.{said-by}
 use Rattle.rounds.proofs.Told.{AsCourse, Told}
@@ -91,10 +94,30 @@ module _ (w : Waits) (lawful : Lawful w) (l : List Event) (history : History w l
     four : length (ofRound round (since w l .sent)) ≤ 4 * edges w
     four = subst (λ (x : List Letter). length x ≤ 4 * edges w) (sym (course .runs .sent)) (right .at-most-four)
 
-    count-exactly : (v : Verdict) → List·Memᴰ v (verdictsOf w round l) → (reachable freed : ℕ)
-        → ((i : ℕ) → In i reachable ↔ Reachable w s i) → ((i : ℕ) → In i freed ↔ FreedFrom w s i)
-        → length (ofRound round (since w l .sent)) ≡ 2 * leaving w reachable + 2 * entering w freed
-    count-exactly v m reachable freed r f = ap (λ (x : List Letter). length x) (course .runs .sent) ∙ right .count-exactly (has-ended v m) reachable freed r f
+    -- at the end the nodes called are the set of those reachable, and the nodes free that of those freed
+    called-set : ended w s now ≡ true → (i : ℕ) → In i (calledIn w now) ↔ Reachable w s i
+    called-set end i = (
+      λ m. right .called-exactly end i .0 (in-called w now i .0 m .1),
+      λ r. in-called w now i .1 (reachable-node w lawful (told .node s round o) r, right .called-exactly end i .1 r),
+    )
+
+    free-set : ended w s now ≡ true → (i : ℕ) → In i (freeIn w now) ↔ FreedFrom w s i
+    free-set end i = (
+      λ m. right .free-exactly end i .0 (in-free w now i .0 m .1),
+      λ f. in-free w now i .1 (reduction-node w (f .0) i (f .1 .0) (f .2), right .free-exactly end i .1 f),
+    )
+
+    count-exactly : (v : Verdict) → List·Memᴰ v (verdictsOf w round l) → (reachable : ℕ) × (freed : ℕ)
+        × ((i : ℕ) → In i reachable ↔ Reachable w s i) × ((i : ℕ) → In i freed ↔ FreedFrom w s i)
+        × (length (ofRound round (since w l .sent)) ≡ 2 * leaving w reachable + 2 * entering w freed)
+    count-exactly v m =
+        let end = has-ended v m in (
+          calledIn w now,
+          freeIn w now,
+          called-set end,
+          free-set end,
+          ap (λ (x : List Letter). length x) (course .runs .sent) ∙ right .count-exactly end (calledIn w now) (freeIn w now) (called-set end) (free-set end),
+        )
 
   -- ---- the newest round
   module _ (s : ℕ) (o : Opened l s (highestIn l)) where

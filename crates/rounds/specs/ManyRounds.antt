@@ -29,10 +29,10 @@ pub record ManyRounds (w : Waits) (l : List Event) : Type 0 where
   -- At most four messages an edge are sent in every round, and so in all.
   pub at-most-four : (round : ℕ) → length (ofRound round (since w l .sent)) ≤ 4 * edges w
   pub at-most-in-all : length (since w l .sent) ≤ 4 * edges w * openings l
-  -- A round that has given its verdict has sent exactly the paper's count. If it is the newest and ended deadlocked, its evidence
-  -- is the nodes called and not free in it.
-  pub count-exactly : (s round : ℕ) → Opened l s round → (v : Verdict) → List·Memᴰ v (verdictsOf w round l) → (reachable freed : ℕ)
-      → ((i : ℕ) → In i reachable ↔ Reachable w s i) → ((i : ℕ) → In i freed ↔ FreedFrom w s i)
-      → length (ofRound round (since w l .sent)) ≡ 2 * leaving w reachable + 2 * entering w freed
+  -- A round that has given its verdict has sent exactly the paper's count, by the set of the nodes reachable from its initiator and by
+  -- that of the nodes freed from there. If it is the newest and ended deadlocked, its evidence is the nodes called and not free in it.
+  pub count-exactly : (s round : ℕ) → Opened l s round → (v : Verdict) → List·Memᴰ v (verdictsOf w round l) → (reachable : ℕ) × (freed : ℕ)
+      × ((i : ℕ) → In i reachable ↔ Reachable w s i) × ((i : ℕ) → In i freed ↔ FreedFrom w s i)
+      × (length (ofRound round (since w l .sent)) ≡ 2 * leaving w reachable + 2 * entering w freed)
   pub evidence-exactly : (s : ℕ) → Opened l s (highestIn l) → List·Memᴰ Deadlocked (verdictsOf w (highestIn l) l)
       → Evidence w s (heldIn w (standing (highestIn l) (since w l)))
