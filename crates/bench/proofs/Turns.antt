@@ -1,11 +1,14 @@
 -- A list of steps, turn by turn: what is left of the list gives what the whole gives. Assumes nothing.
 use mathlib.Core.Path.{_≡_, refl, sym, ap, ap₂, _∙_, subst}
+use mathlib.Core.Bool.{true}
 use mathlib.Core.List.{List, [], _∷_}
 use Prim.Native.Nat.{ℕ, suc, _+_, _≤_, _<_}
 use native.Mathlib.Numerals.{add-one}
 use native.Mathlib.Omega.{arith}
 use lib.ListN.{length, getD, drop, set, length-set, drop-of-length-le}
 use lib.Seq.{sets, drop-cons}
+use borrow.Author.Tests.{le-ltb}
+use Rattle.lemmas.proofs.Cases.{at-true, at-false}
 use Rattle.waits.specs.declared.numbers.Checked.the-variants.{Accepted}
 use Rattle.waits.specs.Rows.{waitsOf}
 use Rattle.step.specs.declared.answers.Answer.{Answer}
@@ -13,9 +16,9 @@ use Rattle.step.specs.Answers.{codeOf}
 use Rattle.lent.specs.declared.steps.Step.{Step}
 use Rattle.lent.specs.Steps.{stepOf, answerNumber}
 use Rattle.bench.specs.Bench.{Bench, After, bench, after}
-use Rattle.bench.specs.Strange.{Good}
+use Rattle.bench.specs.Strange.{strangeBench, Good}
 use Rattle.bench.specs.Steps.{stepOn, takeStep}
-use Rattle.bench.specs.Runs.{run, said, runOn, answersOn}
+use Rattle.bench.specs.Runs.{run, said, runOn, answersOn, refuseAll, runOf}
 use Rattle.bench.proofs.Sound.{good-sound, few-sent}
 use Rattle.bench.proofs.Keeping.{step-good, step-taken}
 use Rattle.bench.proofs.Codes.{answer-few}
@@ -86,3 +89,13 @@ module _ (n : ℕ) (rows : List ℕ) where
   pub answers-length : (steps : List ℕ) (b : Bench) → length (answersOn n rows b steps) ≡ length steps
   answers-length [] b = refl
   answers-length (x ∷ xs) b = ap suc (answers-length xs (stepOn n rows b (stepOf x) .bench))
+
+-- ---- a list that is refused as a whole, and one that isn't
+module _ (n : ℕ) (rows : List ℕ) (b : Bench) (steps answers : List ℕ) where
+  pub run-refused : strangeBench n rows b ≡ true → runOf n rows b steps answers ≡ refuseAll 13 b answers
+  unfolding runOf
+  run-refused e = sym (at-true _ e refl)
+
+  pub run-taken : Good n rows b → length steps ≤ length answers → runOf n rows b steps answers ≡ run (runOn n rows b steps) (sets answers 0 (answersOn n rows b steps)) Accepted
+  unfolding runOf
+  run-taken e h = sym (at-false (refuseAll 13 b answers) e (at-false (refuseAll 15 b answers) (le-ltb (length answers) (length steps) h) refl))

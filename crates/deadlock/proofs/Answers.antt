@@ -88,7 +88,7 @@ module _ (n : ℕ) (rows : List ℕ) (i : ℕ) (ok : checkNodeOf n rows i ≡ Ac
   knot-below : (s : ℕ) → s ≡ knot (waitsOf n rows) i → Inside s (below n)
   knot-below s e = rw e (inside-in _ _ (λ j m. in-below n j .1 (reachable-node (waitsOf n rows) law here (knot-iff (waitsOf n rows) law i here j .0 m .2))))
 
-  knot-evidence : (s : ℕ) → s ≡ knot (waitsOf n rows) i → Evidence (waitsOf n rows) i (members s)
+  pub knot-evidence : (s : ℕ) → s ≡ knot (waitsOf n rows) i → Evidence (waitsOf n rows) i (members s)
   knot-evidence s e = rw e (record {
     ascends = members-ascending _;
     members = λ j. (

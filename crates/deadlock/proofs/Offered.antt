@@ -36,7 +36,7 @@ entries-known n l f =
 
 module _ (n : ℕ) (rows : List ℕ) (i : ℕ) (ok : checkNodeOf n rows i ≡ Accepted) (dead : Deadlocked (waitsOf n rows) i) (l : List ℕ)
     (evidence : Evidence (waitsOf n rows) i l) where
-  evidence-passes : judgedOf n rows i l ≡ Passes
+  pub evidence-passes : judgedOf n rows i l ≡ Passes
   evidence-passes =
       let p = node-accepted n rows i ok in
       let law = accepted-lawful n rows (p .0) in

@@ -1,80 +1,80 @@
--- The three demands, shown: each field is a theorem of another file. Assumes nothing.
-use mathlib.Core.Path.{_≡_, refl, sym, _∙_, subst}
-use mathlib.Core.List.{List}
+-- The demands, shown: each field is a theorem of another file. Assumes nothing.
+use mathlib.Core.Path.{_≡_, sym, _∙_, subst}
+use mathlib.Core.Logic.{_⊎_, inl, inr}
+use mathlib.Core.List.{List, List·Memᴰ}
 use Prim.Native.Nat.{ℕ, _*_, _≤_}
+use lib.ListN.{length}
 use Rattle.waits.specs.declared.numbers.Checked.the-variants.{Accepted}
-use Rattle.waits.specs.Waits.{inOf, edges}
+use Rattle.waits.specs.Waits.{edges}
 use Rattle.waits.specs.Rows.{waitsOf}
 use Rattle.waits.specs.Numbers.{checkOf}
-use Rattle.waits.proofs.Table.{check-refused}
-use Rattle.deadlock.proofs.Passing.{in-outside, passes-same}
-use Rattle.node.proofs.Local.{own-seen}
+use Rattle.step.specs.declared.answers.Verdict.{Verdict}
 use Rattle.lent.specs.declared.steps.Step.{Step}
-use Rattle.bench.specs.Bench.{fresh}
-use Rattle.demands.specs.Turns.{turns, afterSteps, heard}
-use Rattle.demands.specs.Demands.{Demand1, Demand2, Demand3}
-use Rattle.demands.proofs.Refused.{claim-gives, list-gives, room-gives, open-gives, open-left, deliver-gives, deliver-left, step-gives, step-left, run-gives, run-left}
-use Rattle.demands.proofs.Claims.{threshold-met, set-met, claim-right, list-right, some-list}
-use Rattle.demands.proofs.Stands.{sent-count}
+use Rattle.bench.specs.Bench.{Bench, fresh}
+use Rattle.rounds.specs.History.{Opened as History·Opened, verdictsOf}
+use Rattle.rounds.specs.ManyRounds.{ManyRounds}
+use Rattle.demands.specs.Turns.{Turn, turns, afterSteps, heard, Opened, verdictsGiven}
+use Rattle.demands.specs.Demands.{Demand3, Demands}
+use Rattle.demands.proofs.Refused.{demand-1}
+use Rattle.demands.proofs.Claims.{demand-2}
+use Rattle.demands.proofs.Stands.{Stands, sent-count}
 use Rattle.demands.proofs.Past.{opened-heard, heard-opened}
-use Rattle.demands.proofs.Verdicts.{gave-said}
 use Rattle.demands.proofs.Shown.{round-count}
-use Rattle.demands.proofs.Lists.{run-singly, answers-singly}
-use Rattle.demands.proofs.Rounds.{as-numbers, opens, opens-only, stands, rules, ends, evidence, room-enough}
+use Rattle.demands.proofs.Lists.{as-a-list}
+use Rattle.demands.proofs.Rounds.{as-numbers, opens, opens-only, stands, rules, given, ends, evidence, room-enough}
+use Rattle.demands.proofs.Arriving.{can-arrive}
 
-pub demand-1 : Demand1
-demand-1 = record {
-  graph-refused = check-refused;
-  claim-refused = claim-gives;
-  list-refused = λ n rows i l r. list-gives n rows i r l;
-  room-refused = λ n rows i bytes r. room-gives n rows i r bytes;
-  opening-refused = open-gives;
-  delivery-refused = deliver-gives;
-  step-refused = step-gives;
-  run-refused = run-gives;
-  bytes-left = λ n rows i found left r s. s .1;
-  opening-left = open-left;
-  delivery-left = deliver-left;
-  step-left = step-left;
-  run-left = run-left;
-}
+module _ (n : ℕ) (rows messages : List ℕ) (steps : List Step) (ok : checkOf n rows ≡ Accepted) where
+  abbrev now : Bench
+  now = afterSteps n rows (fresh n messages) steps
 
-pub demand-2 : (n : ℕ) (rows : List ℕ) (i : ℕ) → Demand2 n rows i
-demand-2 n rows i = record {
-  p-of-q = threshold-met n rows i;
-  and-or = set-met n rows i;
-  claim = claim-right n rows i;
-  list = list-right n rows i;
-  those-outside = in-outside (waitsOf n rows);
-  alike = passes-same (waitsOf n rows) i;
-  link = some-list n rows i;
-}
+  abbrev past : List Turn
+  past = turns n rows (fresh n messages) steps
 
-pub demand-3 : (n : ℕ) (rows messages : List ℕ) (steps : List Step) → checkOf n rows ≡ Accepted → Demand3 n rows messages steps
-demand-3 n rows messages steps ok =
-    let w = waitsOf n rows in
-    let now = afterSteps n rows (fresh n messages) steps in
-    let events = heard (turns n rows (fresh n messages) steps) in
-    let st = stands n rows messages steps ok in
-    let all = rules n rows messages steps ok in
-    let heard-as = opened-heard n rows messages steps in
-    record {
-      one-opener = λ s t round o p. all .one-opener s t round (heard-as s round o) (heard-as t round p);
-      higher = λ s round o. subst (λ (h : ℕ). round ≤ h) (sym (st .highest)) (all .higher s round (heard-as s round o));
-      opens = λ s round. opens n rows now s round (st .good);
-      opens-only = opens-only n rows now;
-      as-numbers = as-numbers;
-      opener = λ round v g. let r = all .said-opened round v (gave-said n rows messages ok round v steps g) in (r .0, heard-opened n rows messages steps (r .0) round (r .1));
-      no-false = λ s round v o g. all .verdict-right s round (heard-as s round o) v (gave-said n rows messages ok round v steps g);
-      ends = ends n rows messages steps ok;
-      at-most-four = λ round. subst (λ (x : ℕ). x ≤ 4 * edges w) (sym (round-count st round)) (all .at-most-four round);
-      by-rules = (st .history, st .messages);
-      count = sent-count st;
-      count-exactly = λ s round v o g.
-          let c = all .count-exactly s round (heard-as s round o) v (gave-said n rows messages ok round v steps g) in
-          (c .0, c .1, c .2, c .3, round-count st round ∙ c .4);
-      evidence = evidence n rows messages steps ok;
-      room-enough = room-enough n rows messages steps ok;
-      alone = λ i row e. own-seen n i row (inOf w i) rows e refl;
-      as-a-list = λ l. (run-singly n rows l now, answers-singly n rows l now);
-    }
+  -- the bench stands for what was heard, and of that the rules' theorem speaks
+  st : Stands n rows now (heard past)
+  st = stands n rows messages steps ok
+
+  all : ManyRounds (waitsOf n rows) (heard past)
+  all = rules n rows messages steps ok
+
+  opened : (s round : ℕ) → Opened past s round → History·Opened (heard past) s round
+  opened = opened-heard n rows messages steps
+
+  said : (round : ℕ) (v : Verdict) → List·Memᴰ v (verdictsGiven round past) → List·Memᴰ v (verdictsOf (waitsOf n rows) round (heard past))
+  said round v = subst (λ (x : List Verdict). List·Memᴰ v x) (given n rows messages steps ok round)
+
+  newest : (now .highest ≡ 0) ⊎ ((s : ℕ) × Opened past s (now .highest))
+  newest = elim (all .newest) [
+    | inl e ↦ inl (st .highest ∙ e)
+    | inr o ↦ inr (o .0, heard-opened n rows messages steps (o .0) (now .highest) (subst (History·Opened (heard past) (o .0)) (sym (st .highest)) (o .1)))
+  ]
+
+  -- Theorem: the third demand.
+  pub demand-3 : Demand3 n rows messages steps
+  demand-3 = record {
+    one-opener = λ s t round o p. all .one-opener s t round (opened s round o) (opened t round p);
+    newest = newest;
+    higher = λ s round o. subst (λ (h : ℕ). round ≤ h) (sym (st .highest)) (all .higher s round (opened s round o));
+    opens = λ s round. opens n rows now s round (st .good);
+    opens-only = opens-only n rows now;
+    as-numbers = as-numbers;
+    opener = λ round v g. let r = all .said-opened round v (said round v g) in (r .0, heard-opened n rows messages steps (r .0) round (r .1));
+    no-false = λ s round v o g. all .verdict-right s round (opened s round o) v (said round v g);
+    one-verdict = λ round. subst (λ (x : List Verdict). length x ≤ 1) (sym (given n rows messages steps ok round)) (all .one-verdict round);
+    ends = ends n rows messages steps ok;
+    at-most-four = λ round. subst (λ (x : ℕ). x ≤ 4 * edges (waitsOf n rows)) (sym (round-count st round)) (all .at-most-four round);
+    can-arrive = can-arrive n rows messages ok steps;
+    room-enough = room-enough n rows messages steps ok;
+    by-rules = (st .history, st .messages);
+    count = sent-count st;
+    count-exactly = λ s round v o g.
+        let c = all .count-exactly s round (opened s round o) v (said round v g) in
+        (c .0, c .1, c .2, c .3, round-count st round ∙ c .4);
+    evidence = evidence n rows messages steps ok;
+    as-a-list = as-a-list n rows now (st .good);
+  }
+
+-- Theorem: all three.
+pub demands : Demands
+demands = record { first = demand-1; second = demand-2; third = demand-3 }

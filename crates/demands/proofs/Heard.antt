@@ -62,49 +62,48 @@ module _ (n : ℕ) (rows messages : List ℕ) (ok : checkOf n rows ≡ Accepted)
   all-stand [] = fresh-stands n rows messages ok
   all-stand (x ∷ steps) = let st = all-stand steps in next-stands (step-onward st x) st
 
-  one-more : (steps : List Step) (x : Step) → Kept (now steps) (now (x ∷ steps))
-  one-more steps x = next-kept (step-onward (all-stand steps) x)
+  pub step-kept : (steps : List Step) (x : Step) → Kept (now steps) (now (x ∷ steps))
+  step-kept steps x = next-kept (step-onward (all-stand steps) x)
 
   -- Theorem: what a turn found sent is there for ever.
   pub turn-kept : (steps : List Step) (t : Turn) → List·Memᴰ t (past steps) → Kept (t .on) (now steps)
-  turn-kept (x ∷ steps) t (here e) = subst (λ (y : Turn). Kept (y .on) (now (x ∷ steps))) (sym e) (one-more steps x)
-  turn-kept (x ∷ steps) t (there i) = kept-on (turn-kept steps t i) (one-more steps x)
+  turn-kept (x ∷ steps) t (here e) = subst (λ (y : Turn). Kept (y .on) (now (x ∷ steps))) (sym e) (step-kept steps x)
+  turn-kept (x ∷ steps) t (there i) = kept-on (turn-kept steps t i) (step-kept steps x)
 
--- a turn's answer is that of its step on its bench
-pub turn-answer : (n : ℕ) (rows : List ℕ) (b : Bench) (steps : List Step) (t : Turn) → List·Memᴰ t (turns n rows b steps)
-    → t .answer ≡ stepOn n rows (t .on) (t .step) .answer
-turn-answer n rows b (x ∷ steps) t (here e) = subst (λ (y : Turn). y .answer ≡ stepOn n rows (y .on) (y .step) .answer) (sym e) refl
-turn-answer n rows b (x ∷ steps) t (there i) = turn-answer n rows b steps t i
+-- a turn gave what its step on its bench gives
+pub turn-gave : (n : ℕ) (rows : List ℕ) (b : Bench) (steps : List Step) (t : Turn) → List·Memᴰ t (turns n rows b steps) → t .gave ≡ stepOn n rows (t .on) (t .step)
+turn-gave n rows b (x ∷ steps) t (here e) = subst (λ (y : Turn). y .gave ≡ stepOn n rows (y .on) (y .step)) (sym e) refl
+turn-gave n rows b (x ∷ steps) t (there i) = turn-gave n rows b steps t i
 
 -- ---- what was heard is the events of the turns that weren't refused
 heard-cons : (t : Turn) (l : List Turn) (e : Event) → List·Memᴰ e (heard l) → List·Memᴰ e (heard (t ∷ l))
-heard-cons t l e i = go (accepted (t .answer))
+heard-cons t l e i = go (accepted (t .gave .answer))
   where
     go : (b : Bool) → List·Memᴰ e (cond b (eventOf t ∷ heard l) (heard l))
     go true = there i
     go false = i
 
-pub turn-heard : (l : List Turn) (t : Turn) → List·Memᴰ t l → accepted (t .answer) ≡ true → List·Memᴰ (eventOf t) (heard l)
+pub turn-heard : (l : List Turn) (t : Turn) → List·Memᴰ t l → accepted (t .gave .answer) ≡ true → List·Memᴰ (eventOf t) (heard l)
 turn-heard (a ∷ l) t (here e) f =
-    let g : accepted (a .answer) ≡ true = ap (λ (x : Turn). accepted (x .answer)) (sym e) ∙ f in
+    let g : accepted (a .gave .answer) ≡ true = ap (λ (x : Turn). accepted (x .gave .answer)) (sym e) ∙ f in
     Memᴰ·cast (ap eventOf e) (subst (λ (b : Bool). List·Memᴰ (eventOf a) (cond b (eventOf a ∷ heard l) (heard l))) (sym g) (here refl))
 turn-heard (a ∷ l) t (there i) f = heard-cons a l (eventOf t) (turn-heard l t i f)
 
 -- the event of some turn
 abbrev From : List Turn → Event → Type 0
-From l e = (t : Turn) × List·Memᴰ t l × (accepted (t .answer) ≡ true) × (eventOf t ≡ e)
+From l e = (t : Turn) × List·Memᴰ t l × (accepted (t .gave .answer) ≡ true) × (eventOf t ≡ e)
 
 from-later : (a : Turn) (l : List Turn) (e : Event) → From l e → From (a ∷ l) e
 from-later a l e r = (r .0, there (r .1), r .2, r .3)
 
 pub heard-turn : (l : List Turn) (e : Event) → List·Memᴰ e (heard l) → From l e
 heard-turn [] e i = absurd (elim i [ ])
-heard-turn (a ∷ l) e i = go (accepted (a .answer)) refl (heard-turn l e) i
+heard-turn (a ∷ l) e i = go (accepted (a .gave .answer)) refl (heard-turn l e) i
   where
-    first : accepted (a .answer) ≡ true → (List·Memᴰ e (heard l) → From l e) → List·Memᴰ e (eventOf a ∷ heard l) → From (a ∷ l) e
+    first : accepted (a .gave .answer) ≡ true → (List·Memᴰ e (heard l) → From l e) → List·Memᴰ e (eventOf a ∷ heard l) → From (a ∷ l) e
     first f ih (here q) = (a, here refl, f, sym q)
     first f ih (there j) = from-later a l e (ih j)
 
-    go : (b : Bool) → accepted (a .answer) ≡ b → (List·Memᴰ e (heard l) → From l e) → List·Memᴰ e (cond b (eventOf a ∷ heard l) (heard l)) → From (a ∷ l) e
+    go : (b : Bool) → accepted (a .gave .answer) ≡ b → (List·Memᴰ e (heard l) → From l e) → List·Memᴰ e (cond b (eventOf a ∷ heard l) (heard l)) → From (a ∷ l) e
     go true f ih j = first f ih j
     go false f ih j = from-later a l e (ih j)

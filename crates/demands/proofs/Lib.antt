@@ -1,5 +1,6 @@
 -- The demands and the table of the small mornings, proved.
 pub mod Said
+pub mod Asked
 pub mod Refused
 pub mod Claims
 pub mod Stands
@@ -10,6 +11,8 @@ pub mod Verdicts
 pub mod Shown
 pub mod Lists
 pub mod Rounds
+pub mod Arriving
+pub mod Alone
 pub mod Demands
 pub mod Computed
 pub mod Table

@@ -15,15 +15,14 @@ use Rattle.waits.specs.Numbers.{line, firstSaid, checkOf}
 use Rattle.waits.proofs.Table.{accepted-silent}
 use Rattle.lent.specs.declared.steps.Step.{Step}
 use Rattle.lent.specs.Coded.{messageOf}
-use Rattle.bench.specs.Bench.{fresh}
+use Rattle.bench.specs.Bench.{After, fresh}
 use Rattle.bench.specs.Steps.{stepOn}
 use Rattle.rounds.specs.History.{Event, Opened as History·Opened}
 use Rattle.rounds.proofs.Told.{events-apart}
-use Rattle.demands.specs.Turns.{Turn, turns, afterSteps, accepted, opening, letterAt, eventOf, heard}
+use Rattle.demands.specs.Turns.{Turn, turns, afterSteps, accepted, opening, letterAt, eventOf, heard, Opened, Arrived}
 use Rattle.demands.specs.Refusals.{stepLines}
-use Rattle.demands.specs.Demands.{Opened, Arrived}
 use Rattle.demands.proofs.Said.{says-accepted, step-says}
-use Rattle.demands.proofs.Heard.{turn-kept, turn-answer, turn-heard, heard-turn}
+use Rattle.demands.proofs.Heard.{turn-kept, turn-gave, turn-heard, heard-turn}
 
 -- ---- events
 same-opener : {i s r round : ℕ} → Event.opens i r ≡ Event.opens s round → i ≡ s
@@ -58,26 +57,26 @@ module _ (n : ℕ) (rows messages : List ℕ) (steps : List Step) where
   past = turns n rows (fresh n messages) steps
 
   -- Theorems: a node opened a round by a step exactly if it did in the history.
-  pub opened-heard : (s round : ℕ) → Opened n rows messages steps s round → History·Opened (heard past) s round
+  pub opened-heard : (s round : ℕ) → Opened past s round → History·Opened (heard past) s round
   opened-heard s round (t, i, e, f) = Memᴰ·cast (sym (opening-event t s round e)) (turn-heard past t i f)
 
-  pub heard-opened : (s round : ℕ) → History·Opened (heard past) s round → Opened n rows messages steps s round
+  pub heard-opened : (s round : ℕ) → History·Opened (heard past) s round → Opened past s round
   heard-opened s round i = let r = heard-turn past (Event.opens s round) i in (r .0, r .1, event-opening (r .0) s round (r .3), r .2)
 
   -- a delivery that wasn't refused is of a message that had been sent
-  was-sent : (t : Turn) → List·Memᴰ t past → t .step .kind ≡ 1 → accepted (t .answer) ≡ true → t .step .a < t .on .sent
+  was-sent : (t : Turn) → List·Memᴰ t past → t .step .kind ≡ 1 → accepted (t .gave .answer) ≡ true → t .step .a < t .on .sent
   was-sent t i e f =
       let x = t .step in
       let b = t .on in
       let said = says-accepted b (stepOn n rows b x) (firstSaid (stepLines n rows b x)) (step-says b n rows x)
-      (ap accepted (sym (turn-answer n rows (fresh n messages) steps t i)) ∙ f) in
+      (ap (λ (a : After). accepted (a .answer)) (sym (turn-gave n rows (fresh n messages) steps t i)) ∙ f) in
       leb-false (b .sent) (x .a)
       (and-rest (leb (b .sent) (x .a)) (eq-eqb (x .kind) 1 e)
       (or-left-false (eqb (x .kind) 1 && leb (b .sent) (x .a)) _
       (accepted-silent (stepLines n rows b x) said (line 11 0 _) (there (there (there (here refl)))))))
 
   -- Theorem: a message that was delivered, and not refused, arrived in the history, whatever was sent after it.
-  pub arrived-heard : checkOf n rows ≡ Accepted → (k : ℕ) → Arrived n rows messages steps k
+  pub arrived-heard : checkOf n rows ≡ Accepted → (k : ℕ) → Arrived past k
       → List·Memᴰ (Event.arrives (letterAt (afterSteps n rows (fresh n messages) steps) k)) (heard past)
   arrived-heard ok k (t, i, e, q, f) =
       let sent : k < t .on .sent = let h = was-sent t i e f in omega (arith, q) in

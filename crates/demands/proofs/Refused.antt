@@ -1,9 +1,9 @@
--- Bad input gets the number of the first line of its table that says so, and a refused call leaves everything lent as found.
--- Assumes nothing.
+-- The first demand: bad input gets the number of the first line of its table that says so, and a refused call leaves everything lent
+-- as found. Assumes nothing.
 use mathlib.Core.Path.{_≡_, refl, sym, ap, _∙_}
 use mathlib.Core.Bool.{Bool, true, false, cond}
 use mathlib.Core.Logic.{_↔_, Iff·trans}
-use mathlib.Core.List.{List, [], _∷_}
+use mathlib.Core.List.{List}
 use Prim.Native.Nat.{ℕ}
 use lib.Dec.{ltb}
 use lib.ListN.{length}
@@ -14,42 +14,29 @@ use Rattle.records.specs.Records.{State}
 use Rattle.waits.specs.declared.numbers.Refusal.{Refusal}
 use Rattle.waits.specs.declared.numbers.Checked.{Checked}
 use Rattle.waits.specs.declared.numbers.Checked.the-variants.{Accepted, Refused}
-use Rattle.waits.specs.Numbers.{line, firstSaid, Gives}
-use Rattle.waits.proofs.Table.{refused-not-accepted, refused-iff}
-use Rattle.deadlock.specs.Refusals.{strangeEntry, smallRoom, askedLines, checkNodeOf, checkListOf, checkRoomOf}
+use Rattle.waits.specs.Numbers.{firstSaid, Gives}
+use Rattle.waits.proofs.Table.{refused-not-accepted, refused-iff, check-refused}
 use Rattle.step.specs.declared.answers.Answer.the-variants.{Refused as Answer·Refused}
 use Rattle.step.specs.Step.{Outcome, still, openRound, receive}
 use Rattle.node.specs.Calls.{own, unlessRefused, openOf, deliverOf}
 use Rattle.node.specs.Refusals.{openLines, deliverLines, checkOpenOf, checkDeliverOf}
 use Rattle.node.proofs.Refused.{opening-refused, delivery-refused}
 use Rattle.lent.specs.declared.steps.Step.{Step}
-use Rattle.bench.specs.Bench.{Bench, refusal}
+use Rattle.bench.specs.Bench.{Bench, refusal, after}
 use Rattle.bench.specs.Strange.{strangeBench}
 use Rattle.bench.specs.Steps.{stepOn}
 use Rattle.bench.specs.Runs.{Run, run, refuseAll, runOn, answersOn, runOf}
 use Rattle.demands.specs.Turns.{accepted}
 use Rattle.demands.specs.Refusals.{stepLines, runLines}
+use Rattle.demands.specs.Demands.{Demand1}
+use Rattle.demands.proofs.Asked.{by-refusal, no-refusal, found-gives, claim-gives, ring-gives, list-gives, written-gives}
 use Rattle.demands.proofs.Said.{not-refused, one-refusal, open-accepted, receive-accepted, says-refused, says-left, step-says}
-
--- ---- questions about a graph
-module _ (n : ℕ) (rows : List ℕ) (i : ℕ) (r : Refusal) where
-  pub claim-gives : (checkNodeOf n rows i ≡ Refused r) ↔ Gives (askedLines n rows i []) r
-  unfolding checkNodeOf
-  claim-gives = refused-iff (askedLines n rows i []) r
-
-  pub list-gives : (l : List ℕ) → (checkListOf n rows i l ≡ Refused r) ↔ Gives (askedLines n rows i (line 14 0 (strangeEntry n l) ∷ [])) r
-  unfolding checkListOf
-  list-gives l = refused-iff (askedLines n rows i (line 14 0 (strangeEntry n l) ∷ [])) r
-
-  pub room-gives : (bytes : ℕ) → (checkRoomOf n rows i bytes ≡ Refused r) ↔ Gives (askedLines n rows i (line 15 0 (smallRoom n bytes) ∷ [])) r
-  unfolding checkRoomOf
-  room-gives bytes = refused-iff (askedLines n rows i (line 15 0 (smallRoom n bytes) ∷ [])) r
 
 -- ---- a controller's call: it is refused exactly if its check is, and then the record is handed back and nothing is sent
 module _ (s : State) (out : Outcome) (fine : accepted (out .answer) ≡ true) (r : Refusal) where
   call-refused : (c : Checked) → (unlessRefused s out c .answer ≡ Answer·Refused r) ↔ (c ≡ Refused r)
-  call-refused Accepted = (λ e. absurd (not-refused fine e), λ e. absurd (refused-not-accepted (sym e)))
-  call-refused (Refused t) = (λ e. ap Refused (one-refusal e), λ e. ap Answer·Refused (cc e))
+  call-refused Accepted = no-refusal Answer·Refused (λ e. sym fine ∙ ap accepted e) refl
+  call-refused (Refused t) = by-refusal Answer·Refused one-refusal refl
 
   call-left : (c : Checked) → unlessRefused s out c .answer ≡ Answer·Refused r → unlessRefused s out c ≡ still s (Answer·Refused r)
   call-left Accepted e = absurd (not-refused fine e)
@@ -88,14 +75,14 @@ module _ (n : ℕ) (rows : List ℕ) (b : Bench) (x : Step) (r : Refusal) where
   step-gives =
       Iff·trans (says-refused b (stepOn n rows b x) r (firstSaid (stepLines n rows b x)) (step-says b n rows x)) (refused-iff (stepLines n rows b x) r)
 
-  pub step-left : stepOn n rows b x .answer ≡ Answer·Refused r → stepOn n rows b x .bench ≡ b
+  pub step-left : stepOn n rows b x .answer ≡ Answer·Refused r → stepOn n rows b x ≡ after b (Answer·Refused r)
   step-left = says-left b (stepOn n rows b x) r (firstSaid (stepLines n rows b x)) (step-says b n rows x)
 
 -- ---- a list of steps as a whole
 module _ (n : ℕ) (rows : List ℕ) (b : Bench) (steps answers : List ℕ) where
   -- it answers what the table says, and touches nothing unless that is "accepted"
   abbrev RunSays : Run → Checked → Type 0
-  RunSays a c = (a .checked ≡ c) × ((c ≡ Accepted → ⊥) → (a .bench ≡ b) × (a .answers ≡ answers))
+  RunSays a c = (a .checked ≡ c) × ((c ≡ Accepted → ⊥) → a ≡ run b answers c)
 
   run-says : RunSays (runOf n rows b steps answers) (firstSaid (runLines n rows b steps answers))
   unfolding runOf
@@ -104,13 +91,32 @@ module _ (n : ℕ) (rows : List ℕ) (b : Bench) (steps answers : List ℕ) wher
       go : (p q : Bool)
           → RunSays (cond p (refuseAll 13 b answers) (cond q (refuseAll 15 b answers) (run (runOn n rows b steps) (sets answers 0 (answersOn n rows b steps)) Accepted)))
           (cond p (Refused (refusal 13)) (cond q (Refused (refusal 15)) Accepted))
-      go true q = (refl, λ h. (refl, refl))
-      go false true = (refl, λ h. (refl, refl))
+      go true q = (refl, λ h. refl)
+      go false true = (refl, λ h. refl)
       go false false = (refl, λ h. absurd (h refl))
 
   pub run-gives : (r : Refusal) → (runOf n rows b steps answers .checked ≡ Refused r) ↔ Gives (runLines n rows b steps answers) r
   run-gives r = Iff·trans (λ e. sym (run-says .0) ∙ e, λ e. run-says .0 ∙ e) (refused-iff (runLines n rows b steps answers) r)
 
-  pub run-left : (r : Refusal) → runOf n rows b steps answers .checked ≡ Refused r
-      → (runOf n rows b steps answers .bench ≡ b) × (runOf n rows b steps answers .answers ≡ answers)
-  run-left r e = run-says .1 (λ f. refused-not-accepted (sym e ∙ run-says .0 ∙ f))
+  pub run-left : (r : Refusal) → runOf n rows b steps answers .checked ≡ Refused r → runOf n rows b steps answers ≡ run b answers (Refused r)
+  run-left r e = run-says .1 (λ f. refused-not-accepted (sym e ∙ run-says .0 ∙ f)) ∙ ap (run b answers) (sym (run-says .0) ∙ e)
+
+-- Theorem: the first demand, each field by itself.
+pub demand-1 : (n : ℕ) (rows : List ℕ) (r : Refusal) → Demand1 n rows r
+demand-1 n rows r = record {
+  graph-refused = check-refused n rows r;
+  all-refused = found-gives n rows r;
+  claim-refused = claim-gives n rows r;
+  ring-refused = ring-gives n rows r;
+  list-refused = list-gives n rows r;
+  evidence-refused = written-gives n rows r;
+  opening-refused = λ me row ins s round. open-gives n me row ins s round r;
+  delivery-refused = λ me row ins s m. deliver-gives n me row ins s m r;
+  step-refused = λ b x. step-gives n rows b x r;
+  run-refused = λ b l answers. run-gives n rows b l answers r;
+  evidence-left = λ i found left says. says .1;
+  opening-left = λ me row ins s round. open-left n me row ins s round r;
+  delivery-left = λ me row ins s m. deliver-left n me row ins s m r;
+  step-left = λ b x. step-left n rows b x r;
+  run-left = λ b l answers. run-left n rows b l answers r;
+}

@@ -1,13 +1,13 @@
 -- From the theorem on many rounds to the bench: what is so of every history of the rules is so of every bench that was worked from a
 -- fresh start. Assumes nothing.
 use mathlib.Core.Path.{_≡_, refl, sym, ap, _∙_, subst}
-use mathlib.Core.Bool.{Bool, true, false, cond, true≢false}
-use mathlib.Core.Logic.{_⊎_, inl, inr, _↔_}
-use mathlib.Core.List.{List, _∷_, _++_, List·Memᴰ}
+use mathlib.Core.Bool.{Bool, true, false, cond, _||_, true≢false}
+use mathlib.Core.Logic.{inl, inr, _↔_}
+use mathlib.Core.List.{List, [], _∷_, _++_, List·Memᴰ}
 use mathlib.Core.List.List·Memᴰ.{List·Memᴰ·head as here, List·Memᴰ·tail as there}
 use Prim.Native.Nat.{ℕ, _+_, _*_, _≤_, _<_}
 use native.Mathlib.Omega.{arith}
-use lib.Dec.{ltb}
+use lib.Dec.{leb, ltb}
 use lib.ListN.{drop}
 use borrow.Author.Tests.{lt-leb}
 use Rattle.nodes.specs.Sets.{noNode}
@@ -26,7 +26,6 @@ use Rattle.deadlock.specs.Evidence.{Evidence, WrittenSays}
 use Rattle.deadlock.proofs.Unique.{one-evidence}
 use Rattle.step.specs.declared.answers.Verdict.{Verdict}
 use Rattle.step.specs.declared.answers.Verdict.the-variants.{Deadlocked}
-use Rattle.step.specs.declared.answers.Answer.the-variants.{Refused as Answer·Refused}
 use Rattle.lent.specs.declared.steps.Step.{Step}
 use Rattle.bench.specs.Bench.{Bench, After, fresh, room, refusal}
 use Rattle.bench.specs.Strange.{Good, strangeBench}
@@ -36,16 +35,15 @@ use Rattle.rounds.specs.Ends.{heldIn}
 use Rattle.rounds.specs.History.{Event, since, highestIn, openings, Opened as History·Opened, verdictsOf, standing, AllArrived}
 use Rattle.rounds.specs.ManyRounds.{ManyRounds}
 use Rattle.rounds.proofs.ManyRounds.{many-rounds}
-use Rattle.demands.specs.Turns.{turn, turns, afterSteps, accepted, opening, letterAt, eventOf, heard, heldOn}
+use Rattle.demands.specs.Turns.{Turn, turn, turns, afterSteps, accepted, Full, Unless12, opening, delivery, letterAt, eventOf, heard, Opened, Arrived, verdictsGiven, heldOn}
 use Rattle.demands.specs.Refusals.{wouldSend, stepLines}
-use Rattle.demands.specs.Demands.{Opened, Arrived, Gave}
 use Rattle.demands.proofs.Said.{Says, not-refused, one-refusal, says-accepted, step-says}
 use Rattle.demands.proofs.Stands.{Stands, sent-letter}
 use Rattle.demands.proofs.Onward.{Onward, step-onward}
 use Rattle.demands.proofs.Onward.Onward.{refused, full, taken}
 use Rattle.demands.proofs.Heard.{outcome-accepted, all-stand}
 use Rattle.demands.proofs.Past.{opened-heard, arrived-heard}
-use Rattle.demands.proofs.Verdicts.{gave-said, said-gave}
+use Rattle.demands.proofs.Verdicts.{given-said}
 use Rattle.demands.proofs.Shown.{held-same}
 
 -- ---- rounds are compared as numbers
@@ -57,7 +55,7 @@ module _ (n : ℕ) (rows : List ℕ) (b : Bench) (s round : ℕ) where
   abbrev tried : After
   tried = stepOn n rows b (opening s round)
 
-  pub opens : Good n rows b → s < n → (b .highest < round) × (round ≤ lastRound) → (accepted (tried .answer) ≡ true) ⊎ (tried .answer ≡ Answer·Refused (refusal 12))
+  pub opens : Good n rows b → s < n → (b .highest < round) × (round ≤ lastRound) → Unless12 tried
   unfolding noNode
   opens good h k =
       go (strangeBench n rows b) (noNode n s) (cannotOpen (b .highest) round) (ltb (room b) (b .sent + wouldSend (waitsOf n rows) b (opening s round)))
@@ -65,7 +63,7 @@ module _ (n : ℕ) (rows : List ℕ) (b : Bench) (s round : ℕ) where
     where
       go : (p q r t : Bool) → p ≡ false → q ≡ false → r ≡ false
           → Says b tried (cond p (Refused (refusal 13)) (cond q (Refused (refusal 9)) (cond r (Refused (refusal 10)) (cond t (Refused (refusal 12)) Accepted))))
-          → (accepted (tried .answer) ≡ true) ⊎ (tried .answer ≡ Answer·Refused (refusal 12))
+          → Unless12 tried
       go true q r t e f g x = absurd (true≢false e)
       go false true r t e f g x = absurd (true≢false f)
       go false false true t e f g x = absurd (true≢false g)
@@ -78,6 +76,22 @@ module _ (n : ℕ) (rows : List ℕ) (b : Bench) (s round : ℕ) where
       let said = says-accepted b tried (firstSaid lines) (step-says b n rows (opening s round)) e in
       opens-iff (b .highest) round .0 (accepted-silent lines said (line 10 0 (cannotOpen (b .highest) round)) (there (there (here refl))))
 
+-- ---- which messages can be delivered
+module _ (n : ℕ) (rows : List ℕ) (b : Bench) (k : ℕ) where
+  abbrev sends : ℕ
+  sends = wouldSend (waitsOf n rows) b (delivery k)
+
+  pub delivers : Good n rows b → k < b .sent → Unless12 (stepOn n rows b (delivery k))
+  delivers good h = go (strangeBench n rows b) (leb (b .sent) k) (ltb (room b) (b .sent + sends)) good (lt-leb (b .sent) k h) (step-says b n rows (delivery k))
+    where
+      go : (p q t : Bool) → p ≡ false → q ≡ false
+          → Says b (stepOn n rows b (delivery k)) (cond p (Refused (refusal 13)) (cond (q || false) (Refused (refusal 11)) (cond t (Refused (refusal 12)) Accepted)))
+          → Unless12 (stepOn n rows b (delivery k))
+      go true q t e f x = absurd (true≢false e)
+      go false true t e f x = absurd (true≢false f)
+      go false false true e f x = inr (ap (λ (a : After). a .answer) x)
+      go false false false e f x = inl x
+
 -- ---- every bench that was worked from a fresh start
 module _ (n : ℕ) (rows messages : List ℕ) (steps : List Step) (ok : checkOf n rows ≡ Accepted) where
   abbrev w : Waits
@@ -86,8 +100,11 @@ module _ (n : ℕ) (rows messages : List ℕ) (steps : List Step) (ok : checkOf 
   abbrev now : Bench
   now = afterSteps n rows (fresh n messages) steps
 
+  abbrev past : List Turn
+  past = turns n rows (fresh n messages) steps
+
   abbrev events : List Event
-  events = heard (turns n rows (fresh n messages) steps)
+  events = heard past
 
   pub stands : Stands n rows now events
   stands = all-stand n rows messages ok steps
@@ -95,35 +112,38 @@ module _ (n : ℕ) (rows messages : List ℕ) (steps : List Step) (ok : checkOf 
   pub rules : ManyRounds w events
   rules = many-rounds w (accepted-lawful n rows ok) events (stands .history)
 
+  -- what was given in a round
+  pub given : (round : ℕ) → verdictsGiven round past ≡ verdictsOf w round events
+  given round = given-said n rows messages ok round steps
+
   -- ---- the newest round
-  module _ (s : ℕ) (opened : Opened n rows messages steps s (now .highest)) where
+  module _ (s : ℕ) (opened : Opened past s (now .highest)) where
     newest : History·Opened events s (highestIn events)
     newest = subst (History·Opened events s) (stands .highest) (opened-heard n rows messages steps s (now .highest) opened)
 
-    all-arrived : ((k : ℕ) → k < now .sent → letterAt now k .round ≡ now .highest → Arrived n rows messages steps k) → AllArrived w (highestIn events) events
+    all-arrived : ((k : ℕ) → k < now .sent → letterAt now k .round ≡ now .highest → Arrived past k) → AllArrived w (highestIn events) events
     all-arrived arrived m i q =
         let (k, h, e) = sent-letter stands m i in
         subst (λ (x : Letter). List·Memᴰ (Event.arrives x) events) e
         (arrived-heard n rows messages steps ok k (arrived k h (ap (λ (x : Letter). x .round) e ∙ q ∙ sym (stands .highest))))
 
-    pub ends : ((k : ℕ) → k < now .sent → letterAt now k .round ≡ now .highest → Arrived n rows messages steps k)
-        → (v : Verdict) × Gave n rows messages steps (now .highest) v × Right w s v
+    pub ends : ((k : ℕ) → k < now .sent → letterAt now k .round ≡ now .highest → Arrived past k)
+        → (v : Verdict) × (verdictsGiven (now .highest) past ≡ v ∷ []) × Right w s v
     ends arrived =
-        let (v, e) = rules .it-ends s newest (all-arrived arrived) in
-        let said : List·Memᴰ v (verdictsOf w (highestIn events) events) = subst (λ (x : List Verdict). List·Memᴰ v x) (sym e) (here refl) in (
+        let (v, e) = rules .it-ends s newest (all-arrived arrived) in (
           v,
-          said-gave n rows messages ok (now .highest) v steps (subst (λ (r : ℕ). List·Memᴰ v (verdictsOf w r events)) (sym (stands .highest)) said),
-          rules .verdict-right s (highestIn events) newest v said,
+          given (now .highest) ∙ ap (λ (r : ℕ). verdictsOf w r events) (stands .highest) ∙ e,
+          rules .verdict-right s (highestIn events) newest v (subst (λ (x : List Verdict). List·Memᴰ v x) (sym e) (here refl)),
         )
 
-    held-evidence : Gave n rows messages steps (now .highest) Deadlocked → Evidence w s (heldOn n now)
+    held-evidence : List·Memᴰ Deadlocked (verdictsGiven (now .highest) past) → Evidence w s (heldOn n now)
     held-evidence gave =
         subst (Evidence w s) (sym (held-same stands ∙ ap (λ (r : ℕ). heldIn w (standing r (since w events))) (stands .highest)))
         (rules .evidence-exactly s newest
-        (subst (λ (r : ℕ). List·Memᴰ Deadlocked (verdictsOf w r events)) (stands .highest) (gave-said n rows messages ok (now .highest) Deadlocked steps gave)))
+        (subst (λ (x : List Verdict). List·Memᴰ Deadlocked x) (given (now .highest) ∙ ap (λ (r : ℕ). verdictsOf w r events) (stands .highest)) gave))
 
     -- and so it is what was written for s
-    pub evidence : Gave n rows messages steps (now .highest) Deadlocked → Evidence w s (heldOn n now)
+    pub evidence : List·Memᴰ Deadlocked (verdictsGiven (now .highest) past) → Evidence w s (heldOn n now)
         × ((found left : List ℕ) (k : ℕ) → WrittenSays n rows s found left (Bytes k) → left ≡ heldOn n now ++ drop k found)
     evidence gave = (
       held-evidence gave,
@@ -138,11 +158,10 @@ module _ (n : ℕ) (rows messages : List ℕ) (steps : List Step) (ok : checkOf 
     too-few : (r t c : ℕ) → r < t → t ≤ c → c ≤ r → ⊥
     too-few r t c h k l = omega arith
 
-    room-enough-as : {a : After} → Onward n rows now events event a → 4 * edges w * openings (event ∷ events) ≤ room now
-        → a .answer ≡ Answer·Refused (refusal 12) → ⊥
+    room-enough-as : {a : After} → Onward n rows now events event a → 4 * edges w * openings (event ∷ events) ≤ room now → Full a → ⊥
     room-enough-as (refused number h) e f = let q = ap (λ (r : Refusal). r .number) (one-refusal f) in omega arith
     room-enough-as (full h r) e f = too-few (room now) _ _ r (many-rounds w (accepted-lawful n rows ok) (event ∷ events) h .at-most-in-all) e
     room-enough-as (taken next s more same) e f = not-refused (outcome-accepted w (since w events) event) f
 
-    pub room-enough : 4 * edges w * openings (event ∷ events) ≤ room now → stepOn n rows now x .answer ≡ Answer·Refused (refusal 12) → ⊥
+    pub room-enough : 4 * edges w * openings (event ∷ events) ≤ room now → Full (stepOn n rows now x) → ⊥
     room-enough = room-enough-as (step-onward stands x)

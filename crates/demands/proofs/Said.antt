@@ -70,9 +70,9 @@ module _ (b : Bench) (a : After) where
     λ f. ap (λ (y : After). y .answer) e ∙ ap Answer·Refused (cc f),
   )
 
-  pub says-left : (r : Refusal) (c : Checked) → Says b a c → a .answer ≡ Answer·Refused r → a .bench ≡ b
+  pub says-left : (r : Refusal) (c : Checked) → Says b a c → a .answer ≡ Answer·Refused r → a ≡ after b (Answer·Refused r)
   says-left r Accepted e f = absurd (not-refused e f)
-  says-left r (Refused t) e f = ap (λ (y : After). y .bench) e
+  says-left r (Refused t) e f = e ∙ ap (after b) (sym (ap (λ (y : After). y .answer) e) ∙ f)
 
   pub says-accepted : (c : Checked) → Says b a c → accepted (a .answer) ≡ true → c ≡ Accepted
   says-accepted Accepted e f = refl

@@ -16,6 +16,8 @@ use Rattle.waits.specs.Deadlocked.{outside, passes}
 use Rattle.waits.specs.Rows.{rowAt, laterOf, outOf, liesIn, holdsOf}
 use Rattle.waits.specs.Numbers.{strangeCount, wrongCount, strangeKind, strangeMember, waitsOnItself, wrongThreshold, extraSet, badSets, manyEdges, checkOf}
 use Rattle.waits.specs.Mornings.{firstRows, secondRows, fourthRows, fifthRows, sixthRows, ninthRows, tenthRows}
+use Rattle.deadlock.specs.Refusals.{strangeEntry, checkListOf}
+use Rattle.deadlock.specs.Evidence.{judgedOf}
 use Rattle.deadlock.specs.Sweeps.{sweep, sweeps, freeing, freed, stuck, reaching, ahead as reached, knot}
 use Rattle.step.specs.Step.{acked, complete, becomeFree, beCalled, onNotify, onGrant, owed, verdictOf, settle, openRound, stray, take, arrive, receive}
 use Rattle.step.specs.Letters.{lettersOf}
@@ -38,7 +40,7 @@ nobody-passes w i = ap (λ (b : Bool). b && not (anyOf (λ j. w .holds j (outsid
 
 -- Theorem: all that the paper says of these mornings is so.
 pub table : Table
-unfolding checkOf strangeCount wrongCount strangeKind strangeMember waitsOnItself wrongThreshold extraSet badSets manyEdges edgesTo edges rowAt laterOf outOf liesIn holdsOf inOf num bit has union meet minus single with below inside membersFrom members size gather setOf outside passes sweep sweeps freeing freed stuck reaching reached knot leaving entering after openRound receive arrive take stray settle verdictOf owed onGrant onNotify beCalled becomeFree acked complete lettersOf inRound behind ahead compareOf noRound cannotOpen noNode strangeMessage strangeSet strangeRecord strangeKept strangeSent strangeRecords strangeMessages strangeBench recordAt stateAt putState messageOf numberOf stepOf roomOf join openAt arriveAt deliverAt takeStep stepOn runOf
+unfolding checkOf strangeCount wrongCount strangeKind strangeMember waitsOnItself wrongThreshold extraSet badSets manyEdges edgesTo edges rowAt laterOf outOf liesIn holdsOf inOf num bit has union meet minus single with below inside membersFrom members size gather setOf outside passes sweep sweeps freeing freed stuck reaching reached knot leaving entering after openRound receive arrive take stray settle verdictOf owed onGrant onNotify beCalled becomeFree acked complete lettersOf inRound behind ahead compareOf noRound cannotOpen noNode strangeMessage strangeSet strangeRecord strangeKept strangeSent strangeRecords strangeMessages strangeBench recordAt stateAt putState messageOf numberOf stepOf roomOf join openAt arriveAt deliverAt takeStep stepOn runOf strangeEntry checkListOf judgedOf
 table = record {
   first = morning 7 firstRows refl refl refl;
   first-round = full-round 7 firstRows refl 0 (lit< tt) refl refl refl;
@@ -59,6 +61,7 @@ table = record {
   sixth-bench = record { accepted = refl; sent-list = refl; sent-count = refl; answer-list = refl };
   ninth = morning 4 (ninthRows 2) refl refl refl;
   ninth-round = full-round 4 (ninthRows 2) refl 0 (lit< tt) refl refl refl;
+  ninth-evidence = evidence 4 (ninthRows 2) refl 0 (lit< tt) refl;
   ninth-one = morning 4 (ninthRows 1) refl refl refl;
   ninth-one-round = full-round 4 (ninthRows 1) refl 0 (lit< tt) refl refl refl;
   ninth-three = refl;

@@ -1,5 +1,6 @@
 -- What was demanded, over the definitions of the other crates, and the small mornings in one table.
 pub mod Turns
 pub mod Refusals
+pub mod Alone
 pub mod Demands
 pub mod Table

@@ -1,5 +1,4 @@
--- When a step of a bench, and a list of steps, is refused: each number with the line that the paper's table has for it. Assumes
--- nothing.
+-- The paper's table for the calls that come with more than a graph: each number with its line. Assumes nothing.
 use mathlib.Core.Bool.{cond, not, _&&_, _||_}
 use mathlib.Core.List.{List, [], _∷_}
 use Prim.Native.Nat.{ℕ, _+_}
@@ -10,6 +9,7 @@ use Rattle.records.specs.Rounds.{cannotOpen}
 use Rattle.waits.specs.Waits.{Waits}
 use Rattle.waits.specs.Rows.{waitsOf}
 use Rattle.waits.specs.Numbers.{Line, line}
+use Rattle.deadlock.specs.Refusals.{strangeEntry, smallRoom, askedLines}
 use Rattle.step.specs.Step.{Outcome, seenIn, openRound, receive}
 use Rattle.step.specs.Letters.{lettersOf}
 use Rattle.lent.specs.declared.steps.Step.{Step}
@@ -18,7 +18,14 @@ use Rattle.bench.specs.Bench.{Bench, room}
 use Rattle.bench.specs.Strange.{strangeBench}
 use Rattle.demands.specs.Turns.{letterAt}
 
--- how many messages the step sends
+-- a question about node i with a list, and with so many lent bytes
+abbrev pub listLines : ℕ → List ℕ → ℕ → List ℕ → List Line
+listLines n rows i l = askedLines n rows i (line 14 0 (strangeEntry n l) ∷ [])
+
+abbrev pub bytesLines : ℕ → List ℕ → ℕ → ℕ → List Line
+bytesLines n rows i bytes = askedLines n rows i (line 15 0 (smallRoom n bytes) ∷ [])
+
+-- how many messages a step sends
 abbrev sendsOf : ℕ → Outcome → ℕ
 sendsOf i out = length (lettersOf i (out .state .round) (out .sends))
 

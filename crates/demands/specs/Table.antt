@@ -14,7 +14,8 @@ use Rattle.waits.specs.Deadlocked.{Deadlocked as Dead, passes}
 use Rattle.waits.specs.Rows.{waitsOf}
 use Rattle.waits.specs.Numbers.{checkOf}
 use Rattle.waits.specs.Mornings.{firstRows, secondRows, fourthRows, fifthRows, sixthRows, ninthRows, tenthRows}
-use Rattle.deadlock.specs.Evidence.{Evidence}
+use Rattle.deadlock.specs.declared.evidence.Judged.the-variants.{Passes, Fails}
+use Rattle.deadlock.specs.Evidence.{Evidence, judgedOf}
 use Rattle.step.specs.declared.answers.Verdict.{Verdict}
 use Rattle.step.specs.declared.answers.Verdict.the-variants.{NoVerdict, Deadlocked, NotDeadlocked}
 use Rattle.step.specs.declared.answers.Answer.the-variants.{Taken, Opened}
@@ -37,8 +38,8 @@ module _ (n : ℕ) (rows : List ℕ) where
     pub edge-count : edges w ≡ count
     pub deadlocked : (i : ℕ) → ((i < n) × Dead w i) ↔ List·Memᴰ i dead
 
-  -- A full round from node s, whatever its number, and in whatever order its messages came and however often: when it has ended, it has
-  -- sent so many and given this verdict, once. And it can end, whatever came so far.
+  -- A full round from node s, whatever number the round has, and in whatever order its messages came and however often: when it has
+  -- ended, it has sent so many and given this verdict, once. And it can end, whatever came so far.
   pub record FullRound (s count : ℕ) (v : Verdict) : Type 0 where
     pub every : (round : ℕ) (l : List Letter) → Course w s round l → ended w s (after w s round l) ≡ true
         → (length (after w s round l .sent) ≡ count) × (verdicts w s round l ≡ v ∷ [])
@@ -72,8 +73,8 @@ pub record Table : Type 0 where
   pub second-round : FullRound 10 secondRows 0 34 Deadlocked
   pub second-evidence : Evidence (waitsOf 10 secondRows) 0 (0 ∷ 2 ∷ 3 ∷ 4 ∷ 6 ∷ 7 ∷ 8 ∷ [])
   -- 3: there {1, 3, 4, 5, 7, 8} passes for 1; {1, 3, 5} doesn't (4 is outside).
-  pub third-passes : passes (waitsOf 10 secondRows) 0 (0 ∷ 2 ∷ 3 ∷ 4 ∷ 6 ∷ 7 ∷ []) ≡ true
-  pub third-fails : passes (waitsOf 10 secondRows) 0 (0 ∷ 2 ∷ 4 ∷ []) ≡ false
+  pub third-passes : judgedOf 10 secondRows 0 (0 ∷ 2 ∷ 3 ∷ 4 ∷ 6 ∷ 7 ∷ []) ≡ Passes
+  pub third-fails : judgedOf 10 secondRows 0 (0 ∷ 2 ∷ 4 ∷ []) ≡ Fails
   -- 4: both deadlocked, 4 messages, from 1 or from 2. The evidence for either is both.
   pub fourth : Morning 2 fourthRows 2 (0 ∷ 1 ∷ [])
   pub fourth-round : FullRound 2 fourthRows 0 4 Deadlocked × FullRound 2 fourthRows 1 4 Deadlocked
@@ -96,6 +97,7 @@ pub record Table : Type 0 where
   -- the row of 1.
   pub ninth : Morning 4 (ninthRows 2) 5 (0 ∷ 2 ∷ 3 ∷ [])
   pub ninth-round : FullRound 4 (ninthRows 2) 0 12 Deadlocked
+  pub ninth-evidence : Evidence (waitsOf 4 (ninthRows 2)) 0 (0 ∷ 2 ∷ 3 ∷ [])
   pub ninth-one : Morning 4 (ninthRows 1) 5 []
   pub ninth-one-round : FullRound 4 (ninthRows 1) 0 20 NotDeadlocked
   pub ninth-three : checkOf 4 (ninthRows 3) ≡ Accepted

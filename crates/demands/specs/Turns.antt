@@ -1,35 +1,43 @@
 -- A bench, one step after the other: what happened, and what is there. Assumes nothing.
+use mathlib.Core.Path.{_≡_}
 use mathlib.Core.Bool.{Bool, true, false, cond, not, _&&_}
-use mathlib.Core.List.{List, [], _∷_}
-use Prim.Native.Nat.{ℕ}
+use mathlib.Core.Logic.{_⊎_}
+use mathlib.Core.List.{List, [], _∷_, _++_, map, reverse, List·Memᴰ}
+use Prim.Native.Nat.{ℕ, _<_}
 use lib.Dec.{eqb}
 use lib.ListN.{getD, take}
+use lib.Seq.{sets}
 use Rattle.lemmas.specs.Lists.{those}
 use Rattle.nodes.specs.Sets.{members, gather}
 use Rattle.records.specs.Messages.{Letter, letterOf}
 use Rattle.records.specs.Records.{called, free, inRound}
+use Rattle.waits.specs.declared.numbers.Checked.the-variants.{Accepted}
+use Rattle.step.specs.declared.answers.Verdict.{Verdict}
 use Rattle.step.specs.declared.answers.Answer.{Answer}
-use Rattle.step.specs.declared.answers.Answer.the-variants.{Refused, Old, Stray, Repeat, Taken, Opened}
+use Rattle.step.specs.declared.answers.Answer.the-variants.{Refused, Old, Stray, Repeat, Taken, Opened as Answer·Opened}
 use Rattle.lent.specs.declared.steps.Step.{Step}
 use Rattle.lent.specs.Kept.{stateAt}
 use Rattle.lent.specs.Coded.{messageOf}
-use Rattle.bench.specs.Bench.{Bench}
+use Rattle.lent.specs.Steps.{stepOf}
+use Rattle.bench.specs.Bench.{Bench, After, refusal}
 use Rattle.bench.specs.Steps.{stepOn}
-use Rattle.rounds.specs.History.{Event}
+use Rattle.bench.specs.Runs.{said, Run, run}
+use Rattle.rounds.specs.Verdicts.{verdictIn}
+use Rattle.rounds.specs.History.{Event, roundOf}
 
 -- the bench after the steps of a list, the newest first
 abbrev pub afterSteps : ℕ → List ℕ → Bench → List Step → Bench
 afterSteps n rows b [] = b
 afterSteps n rows b (x ∷ l) = stepOn n rows (afterSteps n rows b l) x .bench
 
--- One step: the bench on which it was taken, the step, and the answer.
+-- One step: the bench on which it was taken, the step, and what came of it, a bench and an answer.
 pub record Turn : Type 0 where
   pub on : Bench
   pub step : Step
-  pub answer : Answer
+  pub gave : After
 
 abbrev pub turn : ℕ → List ℕ → Bench → Step → Turn
-turn n rows b x = record { on = b; step = x; answer = stepOn n rows b x .answer }
+turn n rows b x = record { on = b; step = x; gave = stepOn n rows b x }
 
 -- all of them, the newest first
 abbrev pub turns : ℕ → List ℕ → Bench → List Step → List Turn
@@ -43,10 +51,30 @@ accepted Old = true
 accepted Stray = true
 accepted Repeat = true
 accepted (Taken v) = true
-accepted (Opened v) = true
+accepted (Answer·Opened v) = true
+
+-- its messages don't fit the room; it wasn't refused, unless for that
+abbrev pub Full : After → Type 0
+Full a = a .answer ≡ Refused (refusal 12)
+
+abbrev pub Unless12 : After → Type 0
+Unless12 a = (accepted (a .answer) ≡ true) ⊎ Full a
 
 abbrev pub opening : ℕ → ℕ → Step
 opening s round = record { kind = 0; a = s; b = round }
+
+abbrev pub delivery : ℕ → Step
+delivery k = record { kind = 1; a = k; b = 0 }
+
+-- a list of numbers as steps, the newest first
+abbrev pub singly : List ℕ → List Step
+singly l = reverse (map stepOf l)
+
+-- what they come to, taken singly: the bench after all, and in the answer places, from the first on, what each answered, with how many
+-- messages were sent so far; the places after these stay
+unfoldable pub takenSingly : ℕ → List ℕ → Bench → List ℕ → List ℕ → Run
+takenSingly n rows b l answers =
+    run (afterSteps n rows b (singly l)) (sets answers 0 (reverse (map (λ t. said (t .gave)) (turns n rows b (singly l))))) Accepted
 
 -- message k of a bench
 abbrev pub letterAt : Bench → ℕ → Letter
@@ -59,7 +87,24 @@ eventOf t = cond (eqb (t .step .kind) 0) (Event.opens (t .step .a) (t .step .b))
 -- what happened in all, the newest first
 abbrev pub heard : List Turn → List Event
 heard [] = []
-heard (t ∷ l) = cond (accepted (t .answer)) (eventOf t ∷ heard l) (heard l)
+heard (t ∷ l) = cond (accepted (t .gave .answer)) (eventOf t ∷ heard l) (heard l)
+
+-- node s opened the round; message k was delivered, and not refused
+abbrev pub Opened : List Turn → ℕ → ℕ → Type 0
+Opened past s round = (t : Turn) × List·Memᴰ t past × (t .step ≡ opening s round) × (accepted (t .gave .answer) ≡ true)
+
+abbrev pub Arrived : List Turn → ℕ → Type 0
+Arrived past k = (t : Turn) × List·Memᴰ t past × (t .step .kind ≡ 1) × (t .step .a ≡ k) × (accepted (t .gave .answer) ≡ true)
+
+-- by some deliveries more, every message sent by then has arrived
+abbrev pub CanAllArrive : ℕ → List ℕ → Bench → List Step → Type 0
+CanAllArrive n rows b l = (more : List Step) × ((x : Step) → List·Memᴰ x more → x .kind ≡ 1)
+    × ((k : ℕ) → k < afterSteps n rows b (more ++ l) .sent → Arrived (turns n rows b (more ++ l)) k)
+
+-- the verdicts that steps of a round gave, the newest first
+unfoldable pub verdictsGiven : ℕ → List Turn → List Verdict
+verdictsGiven round [] = []
+verdictsGiven round (t ∷ l) = cond (eqb (roundOf (eventOf t)) round) (verdictIn (t .gave .answer)) [] ++ verdictsGiven round l
 
 -- the messages of a round, of those sent
 unfoldable pub messagesOf : ℕ → Bench → List ℕ

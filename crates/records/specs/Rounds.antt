@@ -9,7 +9,7 @@ use Rattle.records.specs.declared.rounds.Compared.the-variants.{Behind, 
 abbrev pub lastRound : ℕ
 lastRound = 65535
 
--- how a round stands to a record's: no other definition compares rounds
+-- how a round stands to a record's: no other definition says which of two rounds is the older
 unfoldable pub compareOf : ℕ → ℕ → Compared
 compareOf round own = cond (ltb round own) Behind (cond (ltb own round) Ahead Same)
 

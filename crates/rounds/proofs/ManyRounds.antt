@@ -2,7 +2,7 @@
 -- Assumes nothing.
 use mathlib.Core.Path.{_≡_, refl, sym, ap, _∙_, subst}
 use mathlib.Core.Bool.{Bool, true, false, cond}
-use mathlib.Core.Logic.{_↔_}
+use mathlib.Core.Logic.{_⊎_, inl, inr, _↔_}
 use mathlib.Core.List.{List, [], _∷_, List·Memᴰ}
 use mathlib.Core.List.List·Memᴰ.{List·Memᴰ·head as here, List·Memᴰ·tail as there}
 use Prim.Native.Nat.{ℕ, suc, _+_, _*_, _≤_}
@@ -58,6 +58,12 @@ rounds-listed (Event.opens i round ∷ l) e (here q) = subst (Listed (round ∷ 
 rounds-listed (Event.opens i round ∷ l) e (there m) = listed-on round (rounds l) e (rounds-listed l e m)
 rounds-listed (Event.arrives m ∷ l) e (here q) = subst (Listed (rounds l)) (sym q) tt
 rounds-listed (Event.arrives x ∷ l) e (there m) = rounds-listed l e m
+
+-- the highest round was opened, unless none was
+newest-opened : (l : List Event) → (highestIn l ≡ 0) ⊎ ((s : ℕ) × Opened l s (highestIn l))
+newest-opened [] = inl refl
+newest-opened (Event.opens i round ∷ l) = inr (i, here refl)
+newest-opened (Event.arrives m ∷ l) = elim (newest-opened l) [ inl e ↦ inl e | inr o ↦ inr (o .0, there (o .1)) ]
 
 -- ---- lists of verdicts
 only-one : (l : List Verdict) → length l ≡ 1 → (v : Verdict) × (l ≡ v ∷ [])
@@ -191,6 +197,7 @@ module _ (w : Waits) (lawful : Lawful w) (l : List Event) (history : History w l
   pub many-rounds : ManyRounds w l
   many-rounds = record {
     one-opener = told .one-opener;
+    newest = newest-opened l;
     higher = λ s round o. told .events-low (Event.opens s round) o;
     sent-opened = told .sent-opened;
     said-opened = said-opened;

@@ -1,6 +1,6 @@
 -- Many rounds are right: what is said of every history, in the paper's sentences. Assumes nothing.
 use mathlib.Core.Path.{_≡_}
-use mathlib.Core.Logic.{_↔_}
+use mathlib.Core.Logic.{_⊎_, _↔_}
 use mathlib.Core.List.{List, [], _∷_, List·Memᴰ}
 use Prim.Native.Nat.{ℕ, _+_, _*_, _≤_}
 use lib.ListN.{length}
@@ -19,6 +19,7 @@ pub record ManyRounds (w : Waits) (l : List Event) : Type 0 where
   -- A round is opened by one node, before any message is sent in it or anything is said in it, and the newest is the highest.
   pub one-opener : (s t round : ℕ) → Opened l s round → Opened l t round → s ≡ t
   pub higher : (s round : ℕ) → Opened l s round → round ≤ highestIn l
+  pub newest : (highestIn l ≡ 0) ⊎ ((s : ℕ) × Opened l s (highestIn l))
   pub sent-opened : (m : Letter) → List·Memᴰ m (since w l .sent) → (s : ℕ) × Opened l s (m .round)
   pub said-opened : (round : ℕ) (v : Verdict) → List·Memᴰ v (verdictsOf w round l) → (s : ℕ) × Opened l s round
   -- No round ever gives a false verdict, nor more than one.

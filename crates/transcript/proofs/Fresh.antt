@@ -8,7 +8,7 @@ use native.Mathlib.Omega.{arith}
 use lib.ListN.{length, take, length-replicate, length-append, drop-of-length-le}
 use lib.Seq.{sets, take-append-le, length-take-le}
 use borrow.Author.Tests.{le-ltb}
-use Rattle.lemmas.proofs.Cases.{at-true, at-false}
+use Rattle.lemmas.proofs.Cases.{at-false}
 use Rattle.lemmas.proofs.Stores.{in-front, front-taken}
 use Rattle.nodes.specs.Words.{places}
 use Rattle.waits.specs.declared.numbers.Checked.{Checked}
@@ -17,9 +17,9 @@ use Rattle.lent.specs.Kept.{recordSize, recordNumbers}
 use Rattle.bench.specs.declared.calls.Ran.{Ran}
 use Rattle.bench.specs.Bench.{Bench, bench, fresh}
 use Rattle.bench.specs.Strange.{strangeBench, Good}
-use Rattle.bench.specs.Runs.{Run, run, runOn, answersOn, refuseAll, runOf}
+use Rattle.bench.specs.Runs.{Run, run, runOn, answersOn, runOf}
 use Rattle.bench.proofs.Sound.{good-sound, shaped, sent-listed}
-use Rattle.bench.proofs.Turns.{run-good, answers-length}
+use Rattle.bench.proofs.Turns.{run-good, answers-length, run-refused, run-taken}
 use Rattle.transcript.specs.Transcript.{zeros, toldOf, told, BeginSays}
 
 -- ---- lists of zeros
@@ -49,16 +49,7 @@ numbers-few : (n : ℕ) → n ≤ places → recordNumbers n ≡ n * recordSize
 unfolding recordNumbers
 numbers-few n h = sym (at-false 0 (le-ltb places n h) refl)
 
--- ---- a list that is refused, and one that isn't
-module _ (n : ℕ) (rows : List ℕ) (b : Bench) (steps answers : List ℕ) where
-  pub run-refused : strangeBench n rows b ≡ true → runOf n rows b steps answers ≡ refuseAll 13 b answers
-  unfolding runOf
-  run-refused e = sym (at-true _ e refl)
-
-  pub run-taken : Good n rows b → length steps ≤ length answers → runOf n rows b steps answers ≡ run (runOn n rows b steps) (sets answers 0 (answersOn n rows b steps)) Accepted
-  unfolding runOf
-  run-taken e h = sym (at-false (refuseAll 13 b answers) e (at-false (refuseAll 15 b answers) (le-ltb (length answers) (length steps) h) refl))
-
+-- ---- the bench of a script
 module _ (n : ℕ) (rows : List ℕ) (room : ℕ) (steps found : List ℕ) (enough : length steps ≤ length found) where
   -- the bench that the code begins with
   abbrev begun : Bench

@@ -29,7 +29,7 @@ use Rattle.bench.specs.Runs.{said, runOn, answersOn, runOf}
 use Rattle.bench.proofs.Sound.{good-sound, shaped, few-sent, sent-listed}
 use Rattle.bench.proofs.Keeping.{step-good, step-taken}
 use Rattle.bench.proofs.Codes.{answer-few}
-use Rattle.bench.proofs.Turns.{run-good, answers-length}
+use Rattle.bench.proofs.Turns.{run-good, answers-length, run-refused, run-taken}
 use Rattle.lines.specs.Lines.{answerLine, answerLines}
 use Rattle.lines.proofs.Lengths.{answer-length, message-length, refused-length, no-script-length}
 use Rattle.script.specs.Script.{most, longest, Script, Meant, scriptOf, meantBy}
@@ -38,7 +38,7 @@ use Rattle.script.specs.Numbers.{numbersOf}
 use Rattle.script.proofs.Triples.{steps-length}
 use Rattle.script.proofs.Shapes.{from, count, rest, script, Passed, is-script, none-or-passed}
 use Rattle.transcript.specs.Transcript.{zeros, lineOf, messageLines, toldOf, told, played, answeredBy, transcriptOf}
-use Rattle.transcript.proofs.Fresh.{zeros-length, filled, run-refused, run-taken}
+use Rattle.transcript.proofs.Fresh.{zeros-length, filled}
 
 -- ---- the answers
 module _ (n : ℕ) (rows : List ℕ) where
