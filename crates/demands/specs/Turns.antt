@@ -60,6 +60,7 @@ Full a = a .answer ≡ Refused (refusal 12)
 abbrev pub Unless12 : After → Type 0
 Unless12 a = (accepted (a .answer) ≡ true) ⊎ Full a
 
+-- the step by which node s opens a round, and the one that delivers message k
 abbrev pub opening : ℕ → ℕ → Step
 opening s round = record { kind = 0; a = s; b = round }
 
