@@ -29,7 +29,8 @@ use Rattle.bench.proofs.Keeping.{step-taken}
 use Rattle.rounds.specs.History.{openings}
 use Rattle.demands.specs.Turns.{Turn, turn, turns, afterSteps, accepted, delivery, eventOf, heard, Arrived, CanAllArrive}
 use Rattle.demands.proofs.Heard.{all-stand, step-kept}
-use Rattle.demands.proofs.Rounds.{delivers, room-enough}
+use Rattle.demands.proofs.Steps.{delivers}
+use Rattle.demands.proofs.Rounds.{room-enough}
 
 -- ---- a step leaves as many places for messages as there were
 join-places : (b : Bench) (highest i : ℕ) (out : Outcome) → length (join b highest i out .bench .messages) ≡ length (b .messages)

@@ -21,7 +21,8 @@ use Rattle.demands.proofs.Stands.{Stands, sent-count}
 use Rattle.demands.proofs.Past.{opened-heard, heard-opened}
 use Rattle.demands.proofs.Shown.{round-count}
 use Rattle.demands.proofs.Lists.{as-a-list}
-use Rattle.demands.proofs.Rounds.{as-numbers, opens, opens-only, stands, rules, given, ends, evidence, room-enough}
+use Rattle.demands.proofs.Steps.{as-numbers, opens, opens-only}
+use Rattle.demands.proofs.Rounds.{stands, rules, given, ends, evidence, room-enough}
 use Rattle.demands.proofs.Arriving.{can-arrive}
 
 module _ (n : ℕ) (rows messages : List ℕ) (steps : List Step) (ok : checkOf n rows ≡ Accepted) where

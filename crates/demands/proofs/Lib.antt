@@ -10,6 +10,7 @@ pub mod Past
 pub mod Verdicts
 pub mod Shown
 pub mod Lists
+pub mod Steps
 pub mod Rounds
 pub mod Arriving
 pub mod Alone

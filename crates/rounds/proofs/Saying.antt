@@ -1,12 +1,11 @@
 -- What is said in a round, event by event. Assumes nothing.
-use mathlib.Core.Path.{_≡_, refl, sym, ap, _∙_, subst}
+use mathlib.Core.Path.{_≡_, refl, ap, _∙_, subst}
 use mathlib.Core.Bool.{Bool, cond}
 use mathlib.Core.Logic.{_⊎_, inl, inr}
-use mathlib.Core.List.{List, [], _∷_, _++_, List·Memᴰ, List·Memᴰ·append-cases, Memᴰ·append-left, Memᴰ·append-right}
+use mathlib.Core.List.{List, [], _∷_, _++_, List·Memᴰ, List·Memᴰ·append-cases}
 use mathlib.Core.List.List·Memᴰ.{List·Memᴰ·head as here, List·Memᴰ·tail as there}
 use Prim.Native.Nat.{ℕ}
 use native.Mathlib.Decide.{ℕ-discrete}
-use lib.Dec.{eqb}
 use borrow.Author.Tests.{eq-eqb, ne-eqb}
 use Rattle.waits.specs.Waits.{Waits}
 use Rattle.step.specs.declared.answers.Verdict.{Verdict}
@@ -28,22 +27,14 @@ module _ (w : Waits) (round : ℕ) (e : Event) (l : List Event) where
   said-else d = ap (λ (b : Bool). cond b saying [] ++ verdictsOf w round l) (ne-eqb (roundOf e) round d)
 
   -- a verdict is given by the event, if it is of the round, or was given before
-  module _ (v : Verdict) where
-    pub said-now : roundOf e ≡ round → List·Memᴰ v saying → List·Memᴰ v (verdictsOf w round (e ∷ l))
-    said-now q i = subst (λ (x : List Verdict). List·Memᴰ v x) (sym (said-own q)) (Memᴰ·append-left (verdictsOf w round l) i)
-
-    pub said-before : List·Memᴰ v (verdictsOf w round l) → List·Memᴰ v (verdictsOf w round (e ∷ l))
-    unfolding verdictsOf
-    said-before i = Memᴰ·append-right (cond (eqb (roundOf e) round) saying []) i
-
-    pub said-when : List·Memᴰ v (verdictsOf w round (e ∷ l)) → ((roundOf e ≡ round) × List·Memᴰ v saying) ⊎ List·Memᴰ v (verdictsOf w round l)
-    said-when i = elim (ℕ-discrete (roundOf e) round) [
-      | yes q ↦ elim (List·Memᴰ·append-cases saying (subst (λ (x : List Verdict). List·Memᴰ v x) (said-own q) i)) [
-        | inl j ↦ inl (q, j)
-        | inr j ↦ inr j
-      ]
-      | no d ↦ inr (subst (λ (x : List Verdict). List·Memᴰ v x) (said-else d) i)
+  said-when : (v : Verdict) → List·Memᴰ v (verdictsOf w round (e ∷ l)) → ((roundOf e ≡ round) × List·Memᴰ v saying) ⊎ List·Memᴰ v (verdictsOf w round l)
+  said-when v i = elim (ℕ-discrete (roundOf e) round) [
+    | yes q ↦ elim (List·Memᴰ·append-cases saying (subst (λ (x : List Verdict). List·Memᴰ v x) (said-own q) i)) [
+      | inl j ↦ inl (q, j)
+      | inr j ↦ inr j
     ]
+    | no d ↦ inr (subst (λ (x : List Verdict). List·Memᴰ v x) (said-else d) i)
+  ]
 
 -- a round of which there is no event
 pub said-nothing : (w : Waits) (round : ℕ) (l : List Event) → ((e : Event) → List·Memᴰ e l → roundOf e ≡ round → ⊥) → verdictsOf w round l ≡ []
