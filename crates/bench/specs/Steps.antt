@@ -43,9 +43,13 @@ openAt w b i round =
 unfoldable pub arriveAt : Waits → Bench → Letter → After
 arriveAt w b m = join b (b .highest) (m .to) (receive (seenIn w (m .to)) (stateAt (b .records) (m .to)) m)
 
--- Message k is delivered, whether or not it was before: 11 if there is none yet.
+-- message k
+abbrev pub letterAt : Bench → ℕ → Letter
+letterAt b k = letterOf (messageOf (getD (b .messages) k 0))
+
+-- It is delivered, whether or not it was before: 11 if there is none yet.
 unfoldable pub deliverAt : Waits → Bench → ℕ → After
-deliverAt w b k = cond (leb (b .sent) k) (refuse 11 b) (arriveAt w b (letterOf (messageOf (getD (b .messages) k 0))))
+deliverAt w b k = cond (leb (b .sent) k) (refuse 11 b) (arriveAt w b (letterAt b k))
 
 -- kind 0 opens node a in round b, kind 1 delivers message a; there are no others
 unfoldable pub takeStep : Waits → Bench → Step → After

@@ -21,12 +21,19 @@ smallRoom n room = ltb room n
 abbrev pub askedLines : ℕ → List ℕ → ℕ → List Line → List Line
 askedLines n rows i more = graphLines n rows ++ line 9 0 (noNode n i) ∷ more
 
+-- with a list, 14; with so many lent bytes, 15
+abbrev pub listLines : ℕ → List ℕ → ℕ → List ℕ → List Line
+listLines n rows i l = askedLines n rows i (line 14 0 (strangeEntry n l) ∷ [])
+
+abbrev pub roomLines : ℕ → List ℕ → ℕ → ℕ → List Line
+roomLines n rows i room = askedLines n rows i (line 15 0 (smallRoom n room) ∷ [])
+
 -- what the check of a question about node i answers; of one that comes with a list; of one that comes with lent room
 unfoldable pub checkNodeOf : ℕ → List ℕ → ℕ → Checked
 checkNodeOf n rows i = firstSaid (askedLines n rows i [])
 
 unfoldable pub checkListOf : ℕ → List ℕ → ℕ → List ℕ → Checked
-checkListOf n rows i l = firstSaid (askedLines n rows i (line 14 0 (strangeEntry n l) ∷ []))
+checkListOf n rows i l = firstSaid (listLines n rows i l)
 
 unfoldable pub checkRoomOf : ℕ → List ℕ → ℕ → ℕ → Checked
-checkRoomOf n rows i room = firstSaid (askedLines n rows i (line 15 0 (smallRoom n room) ∷ []))
+checkRoomOf n rows i room = firstSaid (roomLines n rows i room)

@@ -28,9 +28,10 @@ use Rattle.lent.specs.Kept.{stateAt}
 use Rattle.lent.specs.Coded.{messageOf}
 use Rattle.bench.specs.Bench.{Bench}
 use Rattle.bench.specs.Strange.{strangeSent, Good, strangeKept as bench·strangeKept}
+use Rattle.bench.specs.Steps.{letterAt}
 use Rattle.bench.proofs.Sound.{Sound, good-sound, sent-fine, ins-among}
-use Rattle.demands.specs.Turns.{letterAt}
 use Rattle.demands.specs.Alone.{Alone}
+use Rattle.demands.proofs.Heard.{all-stand}
 
 module _ (n : ℕ) (rows : List ℕ) (b : Bench) (good : Good n rows b) (i : ℕ) (row : List ℕ) (there : i < n) (six : length row ≡ rowSize)
     (same : rowAt row 0 ≡ rowAt rows i) where
@@ -92,10 +93,10 @@ module _ (n : ℕ) (rows : List ℕ) (b : Bench) (good : Good n rows b) (i : ℕ
       → deliverOf n i row ins s (messageOf (getD (b .messages) k 0)) ≡ receive (seenIn (waitsOf n rows) i) s (letterAt b k)
   delivers k sent = takes (messageOf (getD (b .messages) k 0)) (sent-fine n rows b sound k sent)
 
--- Theorem: on a good bench, a controller that is told its node's row and IN does what its node does.
-pub alone : (n : ℕ) (rows : List ℕ) (b : Bench) → Good n rows b → (i : ℕ) (row : List ℕ) → i < n → length row ≡ rowSize
-    → rowAt row 0 ≡ rowAt rows i → Alone n rows b i row
-alone n rows b good i row there six same = record {
-  opens = opens n rows b good i row there six same;
-  delivers = delivers n rows b good i row there six same;
+-- Theorem: a controller that is told its node's row and IN does what its node does.
+pub alone : (n : ℕ) (rows : List ℕ) → Alone n rows
+alone n rows = record {
+  opens = λ b good i row own. opens n rows b good i row (own .0) (own .1) (own .2);
+  delivers = λ b good i row own. delivers n rows b good i row (own .0) (own .1) (own .2);
+  worked = λ ok messages steps. all-stand n rows messages ok steps .good;
 }

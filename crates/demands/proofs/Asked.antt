@@ -22,11 +22,10 @@ use Rattle.deadlock.specs.declared.ring.Report.the-variants.{InRing, BehindRing
 use Rattle.deadlock.specs.declared.evidence.Written.{Written}
 use Rattle.deadlock.specs.declared.evidence.Written.the-variants.{Bytes, Refused as Written·Refused}
 use Rattle.deadlock.specs.declared.evidence.Judged.the-variants.{Passes, Fails, Refused as Judged·Refused}
-use Rattle.deadlock.specs.Refusals.{askedLines, checkNodeOf, checkListOf, checkRoomOf}
+use Rattle.deadlock.specs.Refusals.{askedLines, listLines, roomLines, checkNodeOf, checkListOf, checkRoomOf}
 use Rattle.deadlock.specs.Claims.{FoundSays, ClaimSays}
 use Rattle.deadlock.specs.Ring.{ReportSays}
 use Rattle.deadlock.specs.Evidence.{WrittenSays, judged, judgedOf}
-use Rattle.demands.specs.Refusals.{listLines, bytesLines}
 
 -- ---- an answer and the check behind it: a refusal, which tells its number, or something that is no refusal
 module _ {A : Type 0} (refuse : Refusal → A) {c : Checked} {r : Refusal} where
@@ -79,14 +78,14 @@ module _ (n : ℕ) (rows : List ℕ) (r : Refusal) (i : ℕ) where
   list-gives l = Iff·trans (judged-check (checkListOf n rows i l) (passes (waitsOf n rows) i l)) (refused-iff (listLines n rows i l) r)
 
   -- ---- with lent bytes
-  room-gives : (bytes : ℕ) → (checkRoomOf n rows i bytes ≡ Refused r) ↔ Gives (bytesLines n rows i bytes) r
+  room-gives : (bytes : ℕ) → (checkRoomOf n rows i bytes ≡ Refused r) ↔ Gives (roomLines n rows i bytes) r
   unfolding checkRoomOf
-  room-gives bytes = refused-iff (bytesLines n rows i bytes) r
+  room-gives bytes = refused-iff (roomLines n rows i bytes) r
 
   module _ (found left : List ℕ) where
     written-check : (x : Written) → WrittenSays n rows i found left x → (x ≡ Written·Refused r) ↔ (checkRoomOf n rows i (length found) ≡ Refused r)
     written-check (Bytes k) p = no-refusal Written·Refused (λ e. cc e) (p .0)
     written-check (Written·Refused t) p = by-refusal Written·Refused (λ e. cc e) (p .0)
 
-    pub written-gives : (x : Written) → WrittenSays n rows i found left x → (x ≡ Written·Refused r) ↔ Gives (bytesLines n rows i (length found)) r
+    pub written-gives : (x : Written) → WrittenSays n rows i found left x → (x ≡ Written·Refused r) ↔ Gives (roomLines n rows i (length found)) r
     written-gives x p = Iff·trans (written-check x p) (room-gives (length found))

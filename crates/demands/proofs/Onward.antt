@@ -27,12 +27,12 @@ use Rattle.lent.specs.Coded.{messageOf, numberOf}
 use Rattle.lent.proofs.Back.{record-back, record-kept}
 use Rattle.bench.specs.Bench.{Bench, After, bench, after, room}
 use Rattle.bench.specs.Strange.{Good}
-use Rattle.bench.specs.Steps.{refuse, join, openAt, arriveAt, deliverAt, takeStep, stepOn}
+use Rattle.bench.specs.Steps.{letterAt, refuse, join, openAt, arriveAt, deliverAt, takeStep, stepOn}
 use Rattle.bench.proofs.Sound.{Sound, good-sound, room-le, record-there, sent-fine}
 use Rattle.bench.proofs.Keeping.{apart, joined, opened-fine, to-there, arrived-fine, step-good, step-taken}
 use Rattle.rounds.specs.History.{Event, nodeOf, outcome, since, highestIn, History}
 use Rattle.rounds.proofs.Put.{put-all}
-use Rattle.demands.specs.Turns.{turn, letterAt, eventOf}
+use Rattle.demands.specs.Turns.{turn, eventOf}
 use Rattle.demands.proofs.Stands.{Stands, sent-count, letter-sent}
 
 -- A step with event e: refused with a number up to 11; or with 12, though the history may go on so; or taken. Then the history has

@@ -16,10 +16,10 @@ use Rattle.waits.proofs.Table.{accepted-silent}
 use Rattle.lent.specs.declared.steps.Step.{Step}
 use Rattle.lent.specs.Coded.{messageOf}
 use Rattle.bench.specs.Bench.{After, fresh}
-use Rattle.bench.specs.Steps.{stepOn}
+use Rattle.bench.specs.Steps.{letterAt, stepOn}
 use Rattle.rounds.specs.History.{Event, Opened as History·Opened}
 use Rattle.rounds.proofs.Told.{events-apart}
-use Rattle.demands.specs.Turns.{Turn, turns, afterSteps, accepted, opening, letterAt, eventOf, heard, Opened, Arrived}
+use Rattle.demands.specs.Turns.{Turn, turns, afterSteps, accepted, opening, eventOf, heard, Opened, Arrived}
 use Rattle.demands.specs.Refusals.{stepLines}
 use Rattle.demands.proofs.Said.{says-accepted, step-says}
 use Rattle.demands.proofs.Heard.{turn-kept, turn-gave, turn-heard, heard-turn}

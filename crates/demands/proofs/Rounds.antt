@@ -20,13 +20,13 @@ use Rattle.step.specs.declared.answers.Verdict.{Verdict}
 use Rattle.step.specs.declared.answers.Verdict.the-variants.{Deadlocked}
 use Rattle.lent.specs.declared.steps.Step.{Step}
 use Rattle.bench.specs.Bench.{Bench, After, fresh, room}
-use Rattle.bench.specs.Steps.{stepOn}
+use Rattle.bench.specs.Steps.{letterAt, stepOn}
 use Rattle.rounds.specs.Verdicts.{Right}
 use Rattle.rounds.specs.Ends.{heldIn}
 use Rattle.rounds.specs.History.{Event, since, highestIn, openings, Opened as History·Opened, verdictsOf, standing, AllArrived}
 use Rattle.rounds.specs.ManyRounds.{ManyRounds}
 use Rattle.rounds.proofs.ManyRounds.{many-rounds}
-use Rattle.demands.specs.Turns.{Turn, turn, turns, afterSteps, Full, letterAt, eventOf, heard, Opened, Arrived, verdictsGiven, heldOn}
+use Rattle.demands.specs.Turns.{Turn, turn, turns, afterSteps, Full, eventOf, heard, Opened, Arrived, verdictsGiven, heldOn}
 use Rattle.demands.proofs.Said.{not-refused, one-refusal}
 use Rattle.demands.proofs.Stands.{Stands, sent-letter}
 use Rattle.demands.proofs.Onward.{Onward, step-onward}

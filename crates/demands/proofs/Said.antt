@@ -7,7 +7,6 @@ use mathlib.Core.List.{List}
 use Prim.Native.Nat.{ℕ, _+_}
 use native.Mathlib.Omega.{arith}
 use lib.Dec.{eqb, leb, ltb}
-use lib.ListN.{length}
 use borrow.Author.Tests.{eqb-true}
 use Rattle.nodes.specs.Sets.{has, noNode}
 use Rattle.records.specs.Rounds.{behind, cannotOpen}
@@ -23,14 +22,13 @@ use Rattle.waits.proofs.Table.{refused-not-accepted}
 use Rattle.step.specs.declared.answers.Answer.{Answer}
 use Rattle.step.specs.declared.answers.Answer.the-variants.{Refused as Answer·Refused, Old, Stray, Repeat}
 use Rattle.step.specs.Step.{Seen, Outcome, seenIn, still, openRound, stray, take, arrive, receive}
-use Rattle.step.specs.Letters.{lettersOf}
 use Rattle.lent.specs.declared.steps.Step.{Step}
 use Rattle.lent.specs.Kept.{stateAt}
 use Rattle.bench.specs.Bench.{Bench, After, after, room, refusal}
 use Rattle.bench.specs.Strange.{strangeBench}
-use Rattle.bench.specs.Steps.{refuse, join, openAt, arriveAt, deliverAt, takeStep, stepOn}
-use Rattle.demands.specs.Turns.{accepted, letterAt}
-use Rattle.demands.specs.Refusals.{wouldSend, stepLines}
+use Rattle.bench.specs.Steps.{letterAt, refuse, join, openAt, arriveAt, deliverAt, takeStep, stepOn}
+use Rattle.demands.specs.Turns.{accepted}
+use Rattle.demands.specs.Refusals.{sendsOf, wouldSend, stepLines}
 
 -- ---- what a node answers is no refusal
 pub not-refused : {a : Answer} {r : Refusal} → accepted a ≡ true → a ≡ Answer·Refused r → ⊥
@@ -89,14 +87,10 @@ module _ (b : Bench) where
   by-first true number a c e = refl
   by-first false number a c e = e
 
-  -- how many messages a node sends
-  abbrev count : ℕ → Outcome → ℕ
-  count i out = length (lettersOf i (out .state .round) (out .sends))
-
   join-says : (highest i : ℕ) (out : Outcome) → accepted (out .answer) ≡ true
-      → Says b (join b highest i out) (cond (ltb (room b) (b .sent + count i out)) (Refused (refusal 12)) Accepted)
+      → Says b (join b highest i out) (cond (ltb (room b) (b .sent + sendsOf i out)) (Refused (refusal 12)) Accepted)
   unfolding join
-  join-says highest i out e = by-line (ltb (room b) (b .sent + count i out)) 12 _ Accepted e
+  join-says highest i out e = by-line (ltb (room b) (b .sent + sendsOf i out)) 12 _ Accepted e
 
   module _ (n : ℕ) (rows : List ℕ) (x : Step) where
     abbrev w : Waits
@@ -114,14 +108,14 @@ module _ (b : Bench) where
 
     opening-says : Says b (openAt w b (x .a) (x .b))
         (cond (noNode n (x .a)) (Refused (refusal 9)) (cond (cannotOpen (b .highest) (x .b)) (Refused (refusal 10))
-        (cond (ltb (room b) (b .sent + count (x .a) begun)) (Refused (refusal 12)) Accepted)))
+        (cond (ltb (room b) (b .sent + sendsOf (x .a) begun)) (Refused (refusal 12)) Accepted)))
     unfolding openAt
     opening-says =
         by-line (noNode n (x .a)) 9 _ _ (by-line (cannotOpen (b .highest) (x .b)) 10 _ _
         (join-says (x .b) (x .a) begun (open-accepted (seenIn w (x .a)) (x .b))))
 
     delivery-says : Says b (deliverAt w b (x .a))
-        (cond (leb (b .sent) (x .a) || false) (Refused (refusal 11)) (cond (ltb (room b) (b .sent + count (m .to) got)) (Refused (refusal 12)) Accepted))
+        (cond (leb (b .sent) (x .a) || false) (Refused (refusal 11)) (cond (ltb (room b) (b .sent + sendsOf (m .to) got)) (Refused (refusal 12)) Accepted))
     unfolding deliverAt arriveAt
     delivery-says =
         by-first (leb (b .sent) (x .a)) 11 _ _
@@ -136,7 +130,7 @@ module _ (b : Bench) where
             → Says b (cond p (openAt w b (x .a) (x .b)) (cond q (deliverAt w b (x .a)) (refuse 11 b)))
             (cond (p && noNode n (x .a)) (Refused (refusal 9)) (cond (p && cannotOpen (b .highest) (x .b)) (Refused (refusal 10))
             (cond (q && leb (b .sent) (x .a) || not (p || q)) (Refused (refusal 11))
-            (cond (ltb (room b) (b .sent + cond p (count (x .a) begun) (count (m .to) got))) (Refused (refusal 12)) Accepted))))
+            (cond (ltb (room b) (b .sent + cond p (sendsOf (x .a) begun) (sendsOf (m .to) got))) (Refused (refusal 12)) Accepted))))
         go true true e f = absurd (let h = eqb-true (x .kind) 0 e in let k = eqb-true (x .kind) 1 f in omega arith)
         go true false e f = opening-says
         go false true e f = delivery-says

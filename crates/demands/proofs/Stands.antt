@@ -22,9 +22,9 @@ use Rattle.lent.specs.Coded.{messageOf, numberOf}
 use Rattle.lent.proofs.Back.{letter-back}
 use Rattle.bench.specs.Bench.{Bench, fresh}
 use Rattle.bench.specs.Strange.{strangeKept, strangeMessages, Good}
+use Rattle.bench.specs.Steps.{letterAt}
 use Rattle.bench.proofs.Sound.{Sound, good-sound, sound-good, shaped, sent-listed}
 use Rattle.rounds.specs.History.{Event, since, highestIn, History}
-use Rattle.demands.specs.Turns.{letterAt}
 
 -- The bench isn't refused, every record is what the rules say, the messages sent are the rules' own in their order, as numbers,
 -- and the highest round opened is the same. The rules' messages go from node to node.

@@ -3,22 +3,33 @@
 use mathlib.Core.Path.{_≡_}
 use mathlib.Core.List.{List}
 use Prim.Native.Nat.{ℕ, _≤_, _<_}
-use lib.ListN.{getD}
+use lib.ListN.{length, getD}
 use Rattle.records.specs.Rounds.{lastRound}
+use Rattle.waits.specs.declared.numbers.Checked.the-variants.{Accepted}
 use Rattle.waits.specs.Waits.{inOf}
-use Rattle.waits.specs.Rows.{waitsOf}
+use Rattle.waits.specs.Rows.{rowSize, rowAt, waitsOf}
+use Rattle.waits.specs.Numbers.{checkOf}
 use Rattle.step.specs.Step.{seenIn, openRound, receive}
 use Rattle.node.specs.Calls.{openOf, deliverOf}
+use Rattle.lent.specs.declared.steps.Step.{Step}
 use Rattle.lent.specs.Kept.{stateAt}
 use Rattle.lent.specs.Coded.{messageOf}
-use Rattle.bench.specs.Bench.{Bench}
-use Rattle.demands.specs.Turns.{letterAt}
+use Rattle.bench.specs.Bench.{Bench, fresh}
+use Rattle.bench.specs.Strange.{Good}
+use Rattle.bench.specs.Steps.{letterAt}
+use Rattle.demands.specs.Turns.{afterSteps}
 
--- Node i of a graph, whose six row numbers are `row`, on a bench: any round above its record's that there is can be opened, and any
--- message that was sent can be delivered, whoever it is for.
-pub record Alone (n : ℕ) (rows : List ℕ) (b : Bench) (i : ℕ) (row : List ℕ) : Type 0 where
-  pub opens : (round : ℕ) → stateAt (b .records) i .round < round → round ≤ lastRound
+-- these six numbers are the row of node i
+abbrev pub OwnRow : ℕ → List ℕ → ℕ → List ℕ → Type 0
+OwnRow n rows i row = (i < n) × (length row ≡ rowSize) × (rowAt row 0 ≡ rowAt rows i)
+
+pub record Alone (n : ℕ) (rows : List ℕ) : Type 0 where
+  -- On a bench that isn't refused: any round above its record's that there is can be opened, and any message that was sent can be
+  -- delivered, whoever it is for.
+  pub opens : (b : Bench) → Good n rows b → (i : ℕ) (row : List ℕ) → OwnRow n rows i row → (round : ℕ) → stateAt (b .records) i .round < round → round ≤ lastRound
       → openOf n i row (inOf (waitsOf n rows) i) (stateAt (b .records) i) round ≡ openRound (seenIn (waitsOf n rows) i) round
-  pub delivers : (k : ℕ) → k < b .sent
+  pub delivers : (b : Bench) → Good n rows b → (i : ℕ) (row : List ℕ) → OwnRow n rows i row → (k : ℕ) → k < b .sent
       → deliverOf n i row (inOf (waitsOf n rows) i) (stateAt (b .records) i) (messageOf (getD (b .messages) k 0))
       ≡ receive (seenIn (waitsOf n rows) i) (stateAt (b .records) i) (letterAt b k)
+  -- Every bench that was worked from a fresh start, over an accepted graph, is one.
+  pub worked : checkOf n rows ≡ Accepted → (messages : List ℕ) (steps : List Step) → Good n rows (afterSteps n rows (fresh n messages) steps)

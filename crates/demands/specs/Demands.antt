@@ -29,7 +29,7 @@ use Rattle.deadlock.specs.declared.ring.Report.the-variants.{NotDeadlocked as R
 use Rattle.deadlock.specs.declared.evidence.Written.{Written}
 use Rattle.deadlock.specs.declared.evidence.Written.the-variants.{Bytes, Refused as Written·Refused}
 use Rattle.deadlock.specs.declared.evidence.Judged.the-variants.{Passes, Refused as Judged·Refused}
-use Rattle.deadlock.specs.Refusals.{askedLines, checkNodeOf, checkListOf}
+use Rattle.deadlock.specs.Refusals.{askedLines, listLines, roomLines, checkNodeOf, checkListOf}
 use Rattle.deadlock.specs.Claims.{FoundSays, ClaimSays}
 use Rattle.deadlock.specs.Ring.{ReportSays}
 use Rattle.deadlock.specs.Evidence.{Evidence, WrittenSays, judgedOf}
@@ -42,14 +42,14 @@ use Rattle.node.specs.Calls.{openOf, deliverOf}
 use Rattle.lent.specs.declared.steps.Step.{Step}
 use Rattle.lent.specs.Coded.{numberOf}
 use Rattle.bench.specs.Bench.{Bench, fresh, room, after}
-use Rattle.bench.specs.Steps.{stepOn}
+use Rattle.bench.specs.Steps.{letterAt, stepOn}
 use Rattle.bench.specs.Runs.{run, runOf}
 use Rattle.rounds.specs.Verdicts.{Right}
 use Rattle.rounds.specs.Ends.{FreedFrom, leaving, entering}
 use Rattle.rounds.specs.History.{since, History, openings}
-use Rattle.demands.specs.Turns.{afterSteps, Turn, turn, turns, accepted, Full, Unless12, opening, takenSingly, letterAt}
+use Rattle.demands.specs.Turns.{afterSteps, Turn, turn, turns, accepted, Full, Unless12, opening, takenSingly}
 use Rattle.demands.specs.Turns.{eventOf, heard, Opened, Arrived, CanAllArrive, verdictsGiven, messagesOf, heldOn}
-use Rattle.demands.specs.Refusals.{listLines, bytesLines, stepLines, runLines}
+use Rattle.demands.specs.Refusals.{stepLines, runLines}
 
 -- "Any graph of waits, any record, any message or list may be handed in. Nothing undefined happens and every call ends." No call from
 -- outside has a `requires`, and every function is proved to end safely: the checker shows that of the code itself.
@@ -60,7 +60,7 @@ pub record Demand1 (n : ℕ) (rows : List ℕ) (r : Refusal) : Type 0 where
   pub claim-refused : (i : ℕ) (x : Claim) → ClaimSays n rows i x → (x ≡ Claim·Refused r) ↔ Gives (askedLines n rows i []) r
   pub ring-refused : (i : ℕ) (x : Report) → ReportSays n rows i x → (x ≡ Report·Refused r) ↔ Gives (askedLines n rows i []) r
   pub list-refused : (i : ℕ) (l : List ℕ) → (judgedOf n rows i l ≡ Judged·Refused r) ↔ Gives (listLines n rows i l) r
-  pub evidence-refused : (i : ℕ) (found left : List ℕ) (x : Written) → WrittenSays n rows i found left x → (x ≡ Written·Refused r) ↔ Gives (bytesLines n rows i (length found)) r
+  pub evidence-refused : (i : ℕ) (found left : List ℕ) (x : Written) → WrittenSays n rows i found left x → (x ≡ Written·Refused r) ↔ Gives (roomLines n rows i (length found)) r
   pub opening-refused : (me : ℕ) (row : List ℕ) (ins : ℕ) (s : State) (round : ℕ)
       → (openOf n me row ins s round .answer ≡ Answer·Refused r) ↔ Gives (openLines n me row ins s round) r
   pub delivery-refused : (me : ℕ) (row : List ℕ) (ins : ℕ) (s : State) (m : Message)

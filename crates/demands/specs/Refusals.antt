@@ -1,4 +1,4 @@
--- The paper's table for the calls that come with more than a graph: each number with its line. Assumes nothing.
+-- The paper's table for a step of a bench and for a list of steps: each number with its line. Assumes nothing.
 use mathlib.Core.Bool.{cond, not, _&&_, _||_}
 use mathlib.Core.List.{List, [], _∷_}
 use Prim.Native.Nat.{ℕ, _+_}
@@ -9,24 +9,16 @@ use Rattle.records.specs.Rounds.{cannotOpen}
 use Rattle.waits.specs.Waits.{Waits}
 use Rattle.waits.specs.Rows.{waitsOf}
 use Rattle.waits.specs.Numbers.{Line, line}
-use Rattle.deadlock.specs.Refusals.{strangeEntry, smallRoom, askedLines}
 use Rattle.step.specs.Step.{Outcome, seenIn, openRound, receive}
 use Rattle.step.specs.Letters.{lettersOf}
 use Rattle.lent.specs.declared.steps.Step.{Step}
 use Rattle.lent.specs.Kept.{stateAt}
 use Rattle.bench.specs.Bench.{Bench, room}
 use Rattle.bench.specs.Strange.{strangeBench}
-use Rattle.demands.specs.Turns.{letterAt}
-
--- a question about node i with a list, and with so many lent bytes
-abbrev pub listLines : ℕ → List ℕ → ℕ → List ℕ → List Line
-listLines n rows i l = askedLines n rows i (line 14 0 (strangeEntry n l) ∷ [])
-
-abbrev pub bytesLines : ℕ → List ℕ → ℕ → ℕ → List Line
-bytesLines n rows i bytes = askedLines n rows i (line 15 0 (smallRoom n bytes) ∷ [])
+use Rattle.bench.specs.Steps.{letterAt}
 
 -- how many messages a step sends
-abbrev sendsOf : ℕ → Outcome → ℕ
+abbrev pub sendsOf : ℕ → Outcome → ℕ
 sendsOf i out = length (lettersOf i (out .state .round) (out .sends))
 
 unfoldable pub wouldSend : Waits → Bench → Step → ℕ

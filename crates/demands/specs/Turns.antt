@@ -5,11 +5,10 @@ use mathlib.Core.Logic.{_⊎_}
 use mathlib.Core.List.{List, [], _∷_, _++_, map, reverse, List·Memᴰ}
 use Prim.Native.Nat.{ℕ, _<_}
 use lib.Dec.{eqb}
-use lib.ListN.{getD, take}
+use lib.ListN.{take}
 use lib.Seq.{sets}
 use Rattle.lemmas.specs.Lists.{those}
 use Rattle.nodes.specs.Sets.{members, gather}
-use Rattle.records.specs.Messages.{Letter, letterOf}
 use Rattle.records.specs.Records.{called, free, inRound}
 use Rattle.waits.specs.declared.numbers.Checked.the-variants.{Accepted}
 use Rattle.step.specs.declared.answers.Verdict.{Verdict}
@@ -20,7 +19,7 @@ use Rattle.lent.specs.Kept.{stateAt}
 use Rattle.lent.specs.Coded.{messageOf}
 use Rattle.lent.specs.Steps.{stepOf}
 use Rattle.bench.specs.Bench.{Bench, After, refusal}
-use Rattle.bench.specs.Steps.{stepOn}
+use Rattle.bench.specs.Steps.{letterAt, stepOn}
 use Rattle.bench.specs.Runs.{said, Run, run}
 use Rattle.rounds.specs.Verdicts.{verdictIn}
 use Rattle.rounds.specs.History.{Event, roundOf}
@@ -76,10 +75,6 @@ singly l = reverse (map stepOf l)
 unfoldable pub takenSingly : ℕ → List ℕ → Bench → List ℕ → List ℕ → Run
 takenSingly n rows b l answers =
     run (afterSteps n rows b (singly l)) (sets answers 0 (reverse (map (λ t. said (t .gave)) (turns n rows b (singly l))))) Accepted
-
--- message k of a bench
-abbrev pub letterAt : Bench → ℕ → Letter
-letterAt b k = letterOf (messageOf (getD (b .messages) k 0))
 
 -- what happens if the step is accepted: a round is opened, or a message arrives
 unfoldable pub eventOf : Turn → Event

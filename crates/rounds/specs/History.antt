@@ -45,8 +45,8 @@ highestIn [] = 0
 highestIn (Event.opens i round ∷ l) = round
 highestIn (Event.arrives m ∷ l) = highestIn l
 
--- A history: a round is opened only with a number above all before it, and only what was sent arrives, at any time and again and
--- again. What is lost is never in the list.
+-- A history: a round is opened only at a node that there is and with a number above all before it, and only what was sent arrives, at
+-- any time and again and again. What is lost is never in the list.
 abbrev pub History : Waits → List Event → Type 0
 History w [] = Unit {0}
 History w (Event.opens i round ∷ l) = (i < w .nodes) × (cannotOpen (highestIn l) round ≡ false) × History w l

@@ -13,7 +13,7 @@ use Rattle.step.specs.declared.answers.Verdict.{Verdict}
 use Rattle.step.specs.declared.answers.Verdict.the-variants.{Deadlocked}
 use Rattle.rounds.specs.Verdicts.{Right}
 use Rattle.rounds.specs.Ends.{heldIn, FreedFrom, leaving, entering}
-use Rattle.rounds.specs.History.{highestIn, openings, since, Event, Opened, ofRound, verdictsOf, standing, AllArrived}
+use Rattle.rounds.specs.History.{Event, since, highestIn, openings, Opened, ofRound, verdictsOf, standing, AllArrived}
 
 pub record ManyRounds (w : Waits) (l : List Event) : Type 0 where
   -- A round is opened by one node, before any message is sent in it or anything is said in it, and the newest is the highest.
