@@ -5,10 +5,21 @@ if ! command -v rt >/dev/null; then
 fi
 kit=${RATTLE_HOME:-$(dirname "$(dirname "$(readlink -f "$(command -v rt)")")")}
 
-# Runs the proved program target/bin/NAME. Programs are for x86-64: on another processor the kit has an emulator.
+# Runs the proved program target/bin/NAME or else the program of C target/c/NAME. Programs are for x86-64: on another processor the
+# kit has an emulator.
 start() { # NAME
     local tools=$kit/on/$(uname -m)/toolchain
-    local emulator=$tools/bin/qemu-x86_64
+    local emulator=$tools/bin/qemu-x86_64 program=target/bin/$1
+    [ -e "$program" ] || program=target/c/$1
+    if [ ! -e "$program" ]; then
+        echo "$(basename "$0"): there is neither target/bin/$1 nor target/c/$1; build it first" >&2
+        return 2
+    fi
     [ -x "$emulator" ] || emulator=''
-    ${emulator:+"$emulator"} "$tools/lib/ld-linux-x86-64.so.2" --library-path "$tools/lib" "target/bin/$1"
+    # What this machine's own gcc has linked runs with this machine's own libraries.
+    if [ -z "$emulator" ] && [ "$program" = "target/c/$1" ]; then
+        "$program"
+    else
+        ${emulator:+"$emulator"} "$tools/lib/ld-linux-x86-64.so.2" --library-path "$tools/lib" "$program"
+    fi
 }

@@ -1,73 +1,53 @@
--- The answer to a step is a small number, so that it fits beside the sent count. Assumes nothing.
+-- What a bench answers: what is so of each answer that a step can have is so of every step's; so it is a small number, which fits beside
+-- the sent count. Assumes nothing.
 use mathlib.Core.Bool.{Bool, true, false, cond}
 use Prim.Native.Nat.{ℕ, _+_, _≤_}
 use native.Mathlib.Omega.{arith}
 use lib.Dec.{ltb}
 use lib.ListN.{length}
-use Rattle.nodes.specs.Sets.{has}
-use Rattle.records.specs.declared.causes.Why.the-variants.{Itself}
-use Rattle.records.specs.Messages.{Letter}
-use Rattle.records.specs.Records.{State, blankOf, inRound, hadOf, markOf}
-use Rattle.records.specs.Rounds.{behind}
 use Rattle.waits.specs.Waits.{Waits}
-use Rattle.step.specs.declared.answers.Verdict.{Verdict}
-use Rattle.step.specs.declared.answers.Answer.the-variants.{Old, Stray, Repeat, Taken, Opened}
+use Rattle.step.specs.declared.answers.Answer.{Answer}
+use Rattle.step.specs.declared.answers.Answer.the-variants.{Refused}
 use Rattle.step.specs.Answers.{codeOf}
-use Rattle.step.specs.Step.{Seen, Outcome, seenIn, beCalled, react, settle, still, openRound, stray, receive, arrive, take}
+use Rattle.step.specs.Step.{Outcome, seenIn, openRound}
 use Rattle.step.specs.Letters.{lettersOf}
 use Rattle.step.proofs.Said.{verdict-code-le}
+use Rattle.step.proofs.Answered.{Plain, open-answer, receive-answer}
 use Rattle.lent.specs.declared.steps.Step.{Step}
-use Rattle.bench.specs.Bench.{Bench, After, after, room}
+use Rattle.bench.specs.Bench.{Bench, After, after, room, refusal}
 use Rattle.bench.specs.Steps.{refuse, join, arriveAt, takeStep}
 use Rattle.bench.proofs.Ways.{Way, step-way}
 use Rattle.bench.proofs.Ways.Way.{refused, opened, arrived}
 
--- ---- what a node answers
-abbrev Few : Outcome → Type 0
-Few out = codeOf (out .answer) ≤ 122
+module _ (P : Answer → Type 0) (p : Plain P) (no : (number : ℕ) → 9 ≤ number → number ≤ 12 → P (Refused (refusal number))) (w : Waits) (b : Bench) where
+  join-answer : (highest i : ℕ) (out : Outcome) → P (out .answer) → P (join b highest i out .answer)
+  unfolding join
+  join-answer highest i out h = go (ltb (room b) (b .sent + length (lettersOf i (out .state .round) (out .sends)))) _
+    where
+      go : (t : Bool) (next : Bench) → P (cond t (refuse 12 b) (after next (out .answer)) .answer)
+      go true next = no 12 (omega arith) (omega arith)
+      go false next = h
 
-opened-few : (v : Verdict) → codeOf (Opened v) ≤ 122
-opened-few v = omega (arith, verdict-code-le v)
-
-taken-few : (v : Verdict) → codeOf (Taken v) ≤ 122
-taken-few v = omega (arith, verdict-code-le v)
-
-open-few : (o : Seen) (round : ℕ) → Few (openRound o round)
-unfolding openRound
-open-few o round = opened-few (settle o (blankOf round) (beCalled o Itself (blankOf round)) .verdict)
-
-take-few : (o : Seen) (s : State) (m : Letter) → Few (take o s m)
-unfolding take
-take-few o s m = taken-few (settle o s (react o (m .from) (markOf (m .kind) (m .from) s) (m .kind)) .verdict)
-
-receive-few : (o : Seen) (r : State) (m : Letter) → Few (receive o r m)
-unfolding receive arrive
-receive-few o r m = go (behind (m .round) (r .round)) (stray o (inRound (m .round) r) m) (has (hadOf (m .kind) (inRound (m .round) r)) (m .from))
-  where
-    go : (a b c : Bool) → Few (cond a (still r Old) (cond b (still r Stray) (cond c (still r Repeat) (take o (inRound (m .round) r) m))))
-    go true b c = omega arith
-    go false true c = omega arith
-    go false false true = omega arith
-    go false false false = take-few o (inRound (m .round) r) m
-
--- ---- what a bench answers
-abbrev FewAfter : After → Type 0
-FewAfter a = codeOf (a .answer) ≤ 122
-
-join-few : (b : Bench) (highest i : ℕ) (out : Outcome) → Few out → FewAfter (join b highest i out)
-unfolding join
-join-few b highest i out h = go (ltb (room b) (b .sent + length (lettersOf i (out .state .round) (out .sends)))) _
-  where
-    go : (t : Bool) (next : Bench) → FewAfter (cond t (refuse 12 b) (after next (out .answer)))
-    go true next = omega arith
-    go false next = h
-
-module _ (w : Waits) (b : Bench) where
-  way-few : {a : After} → Way w b a → FewAfter a
+  way-answer : {a : After} → Way w b a → P (a .answer)
   unfolding arriveAt
-  way-few (refused number h) = omega arith
-  way-few (opened i round h e) = join-few b round i (openRound (seenIn w i) round) (open-few (seenIn w i) round)
-  way-few (arrived k h) = join-few b (b .highest) _ _ (receive-few _ _ _)
+  way-answer (refused number h) = no number (h .0) (omega (arith, h .1))
+  way-answer (opened i round h e) = join-answer round i (openRound (seenIn w i) round) (open-answer P p (seenIn w i) round)
+  way-answer (arrived k h) = join-answer (b .highest) _ _ (receive-answer P p _ _ _)
 
-  pub answer-few : (s : Step) → FewAfter (takeStep w b s)
-  answer-few s = way-few (step-way w b s)
+  pub step-answer : (s : Step) → P (takeStep w b s .answer)
+  step-answer s = way-answer (step-way w b s)
+
+abbrev Few : Answer → Type 0
+Few a = codeOf a ≤ 122
+
+few : Plain Few
+few = record {
+  old = omega arith;
+  stray = omega arith;
+  repeat = omega arith;
+  taken = λ v. omega (arith, verdict-code-le v);
+  opened = λ v. omega (arith, verdict-code-le v);
+}
+
+pub answer-few : (w : Waits) (b : Bench) (s : Step) → codeOf (takeStep w b s .answer) ≤ 122
+answer-few = step-answer Few few (λ number _ h. omega (arith, h))

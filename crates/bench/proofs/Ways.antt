@@ -17,7 +17,7 @@ use Rattle.bench.specs.Bench.{Bench, After}
 use Rattle.bench.specs.Steps.{refuse, join, openAt, arriveAt, deliverAt, takeStep}
 
 pub data Way (w : Waits) (b : Bench) : After → Type 0 where
-  refused : (number : ℕ) → number ≤ 11 → Way w b (refuse number b)
+  refused : (number : ℕ) → (9 ≤ number) × (number ≤ 11) → Way w b (refuse number b)
   opened : (i round : ℕ) → i < w .nodes → cannotOpen (b .highest) round ≡ false → Way w b (join b round i (openRound (seenIn w i) round))
   arrived : (k : ℕ) → k < b .sent → Way w b (arriveAt w b (letterOf (messageOf (getD (b .messages) k 0))))
 
@@ -28,8 +28,8 @@ module _ (w : Waits) (b : Bench) where
     where
       go : (p q : Bool) → noNode (w .nodes) i ≡ p → cannotOpen (b .highest) round ≡ q
           → Way w b (cond p (refuse 9 b) (cond q (refuse 10 b) (join b round i (openRound (seenIn w i) round))))
-      go true q e f = Way.refused 9 (omega arith)
-      go false true e f = Way.refused 10 (omega arith)
+      go true q e f = Way.refused 9 (omega arith, omega arith)
+      go false true e f = Way.refused 10 (omega arith, omega arith)
       go false false e f = Way.opened i round (leb-false (w .nodes) i e) f
 
   deliver-way : (k : ℕ) → Way w b (deliverAt w b k)
@@ -37,7 +37,7 @@ module _ (w : Waits) (b : Bench) where
   deliver-way k = go (leb (b .sent) k) refl
     where
       go : (t : Bool) → leb (b .sent) k ≡ t → Way w b (cond t (refuse 11 b) (arriveAt w b (letterOf (messageOf (getD (b .messages) k 0)))))
-      go true e = Way.refused 11 (omega arith)
+      go true e = Way.refused 11 (omega arith, omega arith)
       go false e = Way.arrived k (leb-false (b .sent) k e)
 
   pub step-way : (s : Step) → Way w b (takeStep w b s)
@@ -47,4 +47,4 @@ module _ (w : Waits) (b : Bench) where
       go : (p q : Bool) → Way w b (cond p (openAt w b (s .a) (s .b)) (cond q (deliverAt w b (s .a)) (refuse 11 b)))
       go true q = open-way (s .a) (s .b)
       go false true = deliver-way (s .a)
-      go false false = Way.refused 11 (omega arith)
+      go false false = Way.refused 11 (omega arith, omega arith)

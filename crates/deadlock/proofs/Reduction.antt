@@ -1,13 +1,14 @@
 -- Over any lawful graph of waits: the nodes that some reduction frees are a set that can be computed, and there is only one
 -- such set; a node is deadlocked exactly if it isn't in it. Assumes nothing.
 use mathlib.Core.Path.{_≡_, refl, sym, ap, _∙_}
-use mathlib.Core.Bool.{Bool, true, false}
+use mathlib.Core.Bool.{Bool, true, false, not, _&&_}
 use mathlib.Core.Logic.{_⊎_, inl, inr, ⊎-elim, _↔_}
 use mathlib.Core.List.{List, [], _∷_, List·Memᴰ}
 use Prim.Native.Nat.{ℕ, _<_}
 use native.Mathlib.Omega.{arith}
-use Rattle.nodes.specs.Sets.{bit, In, Inside, with, below, keep, setOf}
-use Rattle.nodes.proofs.Bit.{empty-inside, bit-with-same, in-or-out, in-with, in-below, in-minus, inside-in, inside-member, same-members, keep-grows, list-in, in-list}
+use Rattle.lemmas.proofs.Tests.{not-both, and-right}
+use Rattle.nodes.specs.Sets.{bit, In, Inside, has, with, below, keep, setOf}
+use Rattle.nodes.proofs.Bit.{empty-inside, bit-with-same, has-in, in-or-out, in-with, in-below, in-minus, inside-in, inside-member, same-members, keep-grows, list-in, in-list}
 use Rattle.waits.specs.Waits.{Waits, Lawful}
 use Rattle.waits.specs.Deadlocked.{Reduction, Deadlocked}
 use Rattle.deadlock.specs.Sweeps.{freeing, freed, stuck}
@@ -40,6 +41,25 @@ module _ (w : Waits) where
   pub freeing-no : (k g : ℕ) → w .holds k g ≡ false → g ≡ freeing w k g
   unfolding freeing
   freeing-no k g e = ap (λ (b : Bool). keep b k g) (sym e)
+
+  -- a node that is free already needs no visit
+  kept : (k g : ℕ) → In k g → with g k ≡ g
+  kept k g i =
+      same-members (with g k) g
+      (λ j. (λ m. ⊎-elim (λ (o : In j g). o) (λ (q : j ≡ k). rw q i) (in-with g k j .0 m), λ m. in-with g k j .1 (inl m)))
+
+  pub joins : (k g : ℕ) → (not (has g k) && w .holds k g) ≡ true → with g k ≡ freeing w k g
+  joins k g e = freeing-yes k g (and-right (not (has g k)) _ e)
+
+  pub joins-not : (k g : ℕ) → (not (has g k) && w .holds k g) ≡ false → g ≡ freeing w k g
+  unfolding freeing
+  joins-not k g = go (has g k) refl (w .holds k g)
+    where
+      go : (p : Bool) → has g k ≡ p → (q : Bool) → (not p && q) ≡ false → g ≡ keep q k g
+      go true e true h = sym (kept k g (has-in g k e))
+      go true e false h = refl
+      go false e true h = absurd (not-both refl h)
+      go false e false h = refl
 
   -- a set that some reduction frees, and it alone
   Built : ℕ → Type 0

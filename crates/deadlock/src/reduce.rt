@@ -1,5 +1,8 @@
 // The reduction: which nodes are freed, and which are stuck.
 ghost use mathlib.Core.Path.{_≡_};
+ghost use mathlib.Core.Bool.{not, _&&_};
+ghost use Prim.Native.Nat.{_<_};
+ghost use Rattle.nodes.specs.Sets.{has};
 ghost use Rattle.nodes.specs.Words.{num};
 ghost use Rattle.waits.specs.Rows.{waitsOf, Shaped};
 ghost use Rattle.deadlock.specs.Sweeps.{freeing};
@@ -9,6 +12,17 @@ use nodes::Set;
 use waits::holds;
 use waits::row_at;
 
+// Whether node k joins the freed ones: its condition holds with them granting. One that is free already isn't asked again.
+fn joins(nodes: usize, rows: &[u64], freed: Set, k: Node) -> bool
+    requires { ⌜ Shaped nodes (now rows) × (k .0 < nodes) ⌝ }
+    ensures { λ r. ⌜ r ≡ (not (has (num freed) (k .0)) && waitsOf nodes (now (rows .entry)) .holds (k .0) (num freed)) ⌝ }
+{
+    if freed.has(k) {
+        return false;
+    }
+    holds(row_at(rows, k), freed)
+}
+
 // Every node visited in turn: it joins the freed ones if its condition holds with them granting.
 fn free_more(nodes: usize, rows: &[u64], g: Set) -> Set
     requires { ⌜ Shaped nodes (now rows) ⌝ }
@@ -17,8 +31,7 @@ fn free_more(nodes: usize, rows: &[u64], g: Set) -> Set
     let mut freed = g;
     let mut k: usize = 0;
     while k < nodes {
-        let row = row_at(rows, Node(k));
-        if holds(row, freed) {
+        if joins(nodes, rows, freed, Node(k)) {
             freed = freed.with(Node(k));
         }
         k += 1;

@@ -10,11 +10,12 @@ use lib.Dec.{eqb}
 use lib.ListN.{length}
 use lib.Arith.{lt-one}
 use lib.Pow.{pow-pos, mod-pow-add, split}
+use borrow.Author.Tests.{eqb-true}
 use Rattle.nodes.specs.declared.Smallest.the-variants.{At, Nothing}
-use Rattle.nodes.specs.Sets.{bit, has, inside, Inside, below, only, members}
+use Rattle.nodes.specs.Sets.{bit, has, inside, Inside, below, only, members, size}
 use Rattle.nodes.specs.Words.{firstOf}
-use Rattle.nodes.proofs.Bit.{bit-above, of-inside, inside-lt}
-use Rattle.nodes.proofs.Size.{from, from-none, from-step, from-cat, members-from, members-suc, members-none, members-all, size-members, size-below}
+use Rattle.nodes.proofs.Bit.{bit-above, of-inside, empty-inside, inside-lt}
+use Rattle.nodes.proofs.Size.{from, from-none, from-step, from-cat, members-from, members-suc, members-none, members-all, size-members, size-empty, size-below}
 
 -- every place walked, and none past the width
 pub inside-all : (w a b : ℕ) → a < 2 ^ w → ((k : ℕ) → k < w → bit a k ≤ bit b k) → inside a b ≡ true
@@ -65,3 +66,17 @@ listed-length s k = omega (arith, size-below s k, size-members (s % 2 ^ k))
 pub listed-all : (n s : ℕ) → Inside s (below n) → listed s n ≡ members s
 unfolding listed
 listed-all n s h = members-all n s (inside-lt n s h)
+
+-- nothing to walk over
+module _ (s : ℕ) (e : eqb s 0 ≡ true) where
+  empty : s ≡ 0
+  empty = eqb-true s 0 e
+
+  pub none-inside : (t : ℕ) → true ≡ inside s t
+  none-inside t = sym (of-inside s t (rw empty (empty-inside t)))
+
+  pub none-counted : 0 ≡ size s
+  none-counted = sym (ap size empty ∙ size-empty)
+
+  pub none-first : Nothing ≡ firstOf (members s)
+  none-first = sym (ap firstOf (ap members empty ∙ members-from 0 ∙ from-none 0))

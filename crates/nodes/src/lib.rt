@@ -91,10 +91,13 @@ impl Set {
         Set((1u64 << n) - 1)
     }
 
-    // Whether each member is in t, place by place.
+    // Whether each member is in t, place by place. Most sets that are asked about have none, which is told at once.
     pub fn inside(self, t: Set) -> bool
         ensures { λ r. ⌜ r ≡ inside (num self) (num t) ⌝ }
     {
+        if self.is_empty() {
+            return true;
+        }
         let mut k: usize = 0;
         while k < PLACES {
             if t.digit(k) < self.digit(k) {
@@ -109,6 +112,9 @@ impl Set {
     pub fn size(self) -> u64
         ensures { λ r. ⌜ (r ≡ size (num self)) × (r ≤ places) ⌝ }
     {
+        if self.is_empty() {
+            return 0;
+        }
         let mut count: u64 = 0;
         let mut k: usize = 0;
         while k < PLACES {
@@ -121,6 +127,9 @@ impl Set {
     pub fn smallest(self) -> Smallest
         ensures { λ r. ⌜ r ≡ firstOf (members (num self)) ⌝ }
     {
+        if self.is_empty() {
+            return Smallest::Nothing;
+        }
         let mut k: usize = 0;
         while k < PLACES {
             if self.digit(k) == 1 {

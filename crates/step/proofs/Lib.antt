@@ -1,5 +1,6 @@
 -- The laws of a step.
 pub mod Said
+pub mod Answered
 pub mod Reacts
 pub mod Fits
 pub mod Held

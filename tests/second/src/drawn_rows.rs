@@ -1,6 +1,6 @@
 //! Row numbers drawn at random: conditions of every kind over given waits, and rows of any numbers.
 
-use crate::graph::{NodeSet, Row, Rows, ACTIVE};
+use crate::graph::{bits, NodeSet, Row, Rows, ACTIVE};
 use crate::prng::Prng;
 use crate::shapes::{self, Shape};
 
@@ -45,10 +45,6 @@ fn sets_row(rng: &mut Prng, out: &NodeSet) -> Row {
         }
     }
     row
-}
-
-fn bits(set: &NodeSet) -> u64 {
-    set.iter().map(|member| 1u64 << member).sum()
 }
 
 /// A few rows of small numbers of any kind: close to the border between accepted and refused.

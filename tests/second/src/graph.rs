@@ -12,6 +12,19 @@ pub type Row = [u64; NUMBERS_A_ROW];
 
 pub const ACTIVE: Row = [0; NUMBERS_A_ROW];
 
+/// The members of a set that is handed in as a number: bit k is node k, whether that node exists or not.
+pub fn members(bits: u64) -> NodeSet {
+    (0..64).filter(|place| bits >> place & 1 == 1).collect()
+}
+
+pub fn bits(set: &NodeSet) -> u64 {
+    set.iter().map(|member| 1u64 << member).sum()
+}
+
+pub fn count_is_bad(nodes: u64) -> bool {
+    nodes == 0 || nodes > MOST_NODES
+}
+
 /// A number of the paper's table, with the row it was found in (row 0 where no row is meant).
 pub struct Refusal {
     pub number: u64,
@@ -59,6 +72,20 @@ pub struct Node {
 }
 
 impl Node {
+    /// Judges the node's own row, 2 to 7. Who waits on it is no matter of that row, and left empty.
+    pub fn read(me: usize, row: &[u64], nodes: usize) -> Result<Node, Refusal> {
+        let read = ReadRow::of(row);
+        if let Some(number) = read.refusal(me, nodes) {
+            return Err(Refusal { number, row: me });
+        }
+        Ok(Node {
+            me,
+            out: read.sets.iter().flatten().copied().collect(),
+            into: NodeSet::new(),
+            condition: read.condition(),
+        })
+    }
+
     pub fn is_active(&self) -> bool {
         self.condition == Condition::Active
     }
@@ -101,22 +128,12 @@ impl Rows {
 
     /// Judges the numbers as the paper orders it: 1; then row by row 2 to 7; then 8.
     pub fn graph(&self) -> Result<Graph, Refusal> {
-        let count_is_bad = self.nodes == 0 || self.nodes > MOST_NODES;
-        if count_is_bad || self.numbers.len() != NUMBERS_A_ROW * self.nodes as usize {
+        if count_is_bad(self.nodes) || self.numbers.len() != NUMBERS_A_ROW * self.nodes as usize {
             return Err(Refusal::plain(1));
         }
         let mut nodes = Vec::new();
-        for (me, numbers) in self.numbers.chunks(NUMBERS_A_ROW).enumerate() {
-            let read = ReadRow::of(numbers);
-            if let Some(number) = read.refusal(me, self.nodes as usize) {
-                return Err(Refusal { number, row: me });
-            }
-            nodes.push(Node {
-                me,
-                out: read.sets.iter().flatten().copied().collect(),
-                into: NodeSet::new(),
-                condition: read.condition(),
-            });
+        for (me, row) in self.numbers.chunks(NUMBERS_A_ROW).enumerate() {
+            nodes.push(Node::read(me, row, self.nodes as usize)?);
         }
         for waiter in 0..nodes.len() {
             for target in nodes[waiter].out.clone() {
@@ -140,11 +157,10 @@ struct ReadRow {
 
 impl ReadRow {
     fn of(numbers: &[u64]) -> ReadRow {
-        let members = |bits: &u64| (0..64).filter(|place| bits >> place & 1 == 1).collect();
         ReadRow {
             kind: numbers[0],
             threshold: numbers[1],
-            sets: numbers[2..].iter().map(members).collect(),
+            sets: numbers[2..].iter().map(|bits| members(*bits)).collect(),
         }
     }
 

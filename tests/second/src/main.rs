@@ -1,37 +1,16 @@
-//! The second program: the paper's rules written a second time, to hold other programs against.
+//! The second program: says what the paper's rules make of an input, and holds other programs against it.
 
-mod bench;
-mod drawn_rows;
-mod drawn_steps;
-mod forms;
-mod graph;
-mod laws;
-mod message;
-mod morning_graphs;
-mod mornings;
-mod node;
-mod pipe;
-mod plan;
-mod prng;
-mod questions;
-mod random;
-mod reduction;
-mod refused_graphs;
-mod replay;
-mod script;
-mod shapes;
-mod sorts;
-mod tally;
-mod vectors;
-
-use pipe::Program;
-use random::Trial;
+use second::call_trial::CallTrial;
+use second::pipe::Program;
+use second::random::Trial;
+use second::{mornings, replay, vectors};
 use std::io::{self, Read, Write};
 use std::process::ExitCode;
 
 const USAGE: &str = "second replay
 second vectors DIR PROGRAM [ARGS...]
 second random SEED COUNT PROGRAM [ARGS...]
+second calls SEED COUNT PROGRAM [ARGS...]
 second mornings";
 
 fn main() -> ExitCode {
@@ -54,10 +33,16 @@ fn obey(words: &[&str]) -> io::Result<ExitCode> {
         ["vectors", folder, name, arguments @ ..] => {
             vectors::check(folder, &Program { name, arguments })
         }
-        ["random", seed, count, name, arguments @ ..] => {
+        [trial @ ("random" | "calls"), seed, count, name, arguments @ ..] => {
             let program = Program { name, arguments };
-            match (seed.parse(), count.parse()) {
-                (Ok(seed), Ok(count)) => Trial {
+            match (*trial, seed.parse(), count.parse()) {
+                ("random", Ok(seed), Ok(count)) => Trial {
+                    seed,
+                    count,
+                    program,
+                }
+                .check(),
+                ("calls", Ok(seed), Ok(count)) => CallTrial {
                     seed,
                     count,
                     program,

@@ -10,6 +10,9 @@ pub enum Kind {
     Done,
 }
 
+/// In the order in which they join the list, which is also that of their numbers.
+pub const KINDS: [Kind; 4] = [Kind::Notify, Kind::Grant, Kind::Ack, Kind::Done];
+
 /// Messages of one node and round are ordered as those of one step join the list: by kind, then by receiver.
 #[derive(Clone, Copy, PartialEq, Eq, PartialOrd, Ord)]
 pub struct Message {

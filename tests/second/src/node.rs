@@ -26,7 +26,7 @@ pub struct Record {
     pub round: u64,
     pub call: Call,
     pub freed: Freed,
-    had: BTreeSet<(Kind, usize)>,
+    pub had: BTreeSet<(Kind, usize)>,
 }
 
 impl Record {
@@ -42,9 +42,9 @@ impl Record {
         senders.iter().all(had)
     }
 
-    fn granting(&self) -> NodeSet {
-        let grants = self.had.iter().filter(|(kind, _)| *kind == Kind::Grant);
-        grants.map(|(_, sender)| *sender).collect()
+    pub fn senders(&self, wanted: Kind) -> NodeSet {
+        let had = self.had.iter().filter(|(kind, _)| *kind == wanted);
+        had.map(|(_, sender)| *sender).collect()
     }
 }
 
@@ -175,7 +175,7 @@ impl<'a> Turn<'a> {
     }
 
     fn be_granted(&mut self, sender: usize) {
-        let condition_holds = self.node.condition.holds(&self.record.granting());
+        let condition_holds = self.node.condition.holds(&self.record.senders(Kind::Grant));
         if self.record.freed == Freed::NotFree && condition_holds {
             self.become_free(Freed::By(sender));
             self.answer_the_freer_if_due();

@@ -1,7 +1,7 @@
 //! Another program: fed through a pipe, and what it writes held against what was expected.
 
 use std::io::{self, Write};
-use std::process::{Command, ExitStatus, Stdio};
+use std::process::{Child, Command, ExitStatus, Stdio};
 use std::thread;
 
 /// The program under trial and the arguments it is always given.
@@ -16,13 +16,18 @@ pub struct Output {
 }
 
 impl Program<'_> {
-    pub fn run(&self, input: &[u8]) -> io::Result<Output> {
-        let mut child = Command::new(self.name)
+    /// Started, with both pipes still to be taken.
+    pub fn start(&self) -> io::Result<Child> {
+        Command::new(self.name)
             .args(self.arguments)
             .stdin(Stdio::piped())
             .stdout(Stdio::piped())
             .spawn()
-            .map_err(|error| io::Error::new(error.kind(), format!("{}: {error}", self.name)))?;
+            .map_err(|error| io::Error::new(error.kind(), format!("{}: {error}", self.name)))
+    }
+
+    pub fn run(&self, input: &[u8]) -> io::Result<Output> {
+        let mut child = self.start()?;
         let stdin = child.stdin.take();
         // Writing beside the reading: with both in turn, two full pipes would wait on each other.
         let output = thread::scope(|scope| {

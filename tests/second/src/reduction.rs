@@ -2,18 +2,20 @@
 
 use crate::graph::{Graph, NodeSet};
 
-/// Frees nodes until no further one can go; of the active nodes only those in `may_start` are freed.
+/// Goes over the nodes until a pass frees nobody; of the active nodes only those in `may_start` are freed.
 pub fn freed_from(graph: &Graph, may_start: &NodeSet) -> NodeSet {
     let mut freed = NodeSet::new();
     loop {
-        let next = graph.nodes.iter().find(|node| {
+        let before = freed.len();
+        for node in &graph.nodes {
             let allowed = !node.is_active() || may_start.contains(&node.me);
-            allowed && !freed.contains(&node.me) && node.condition.holds(&freed)
-        });
-        match next {
-            Some(node) => freed.insert(node.me),
-            None => return freed,
-        };
+            if allowed && !freed.contains(&node.me) && node.condition.holds(&freed) {
+                freed.insert(node.me);
+            }
+        }
+        if freed.len() == before {
+            return freed;
+        }
     }
 }
 

@@ -24,7 +24,7 @@ const ALL: &[Shape] = &[
     Few, Ring, Chain, Star, Tree, Islands, Layers, Sparse, Dense, Limit,
 ];
 
-const CALM: Plan = Plan {
+pub const CALM: Plan = Plan {
     shapes: SMALL,
     room: Room::Good,
     rounds: 4,

@@ -1,8 +1,8 @@
 //! What a random trial has really tried, counted for its reader.
 
 use crate::bench::{Answer, MOST_ROOM};
+use crate::counts::Counts;
 use crate::replay::Outcome;
-use std::collections::BTreeMap;
 use std::fmt;
 
 /// What a long trial should come upon, so that what never came shows as 0.
@@ -20,22 +20,18 @@ const EXPECTED: [(&str, &str); 4] = [
 const IMPOSSIBLE: [&str; 2] = ["answer stray", "answer opened deadlocked"];
 
 pub struct Tally {
-    counts: BTreeMap<String, usize>,
+    counts: Counts,
 }
 
 impl Tally {
     pub fn new() -> Tally {
-        let mut counts = BTreeMap::new();
-        for (group, endings) in EXPECTED {
-            for ending in endings.split(", ") {
-                counts.insert(format!("{group} {ending}"), 0);
-            }
+        Tally {
+            counts: Counts::expecting(&EXPECTED),
         }
-        Tally { counts }
     }
 
     fn add(&mut self, name: String) {
-        *self.counts.entry(name).or_default() += 1;
+        self.counts.add(name);
     }
 
     pub fn count(&mut self, sort: &str, outcome: &Outcome) {
@@ -79,7 +75,7 @@ fn room(lent: u64) -> &'static str {
 
 impl fmt::Display for Tally {
     fn fmt(&self, f: &mut fmt::Formatter) -> fmt::Result {
-        for (name, count) in &self.counts {
+        for (name, count) in self.counts.all() {
             let remark = match IMPOSSIBLE.contains(&name.as_str()) {
                 true => " (can't occur on a fresh bench)",
                 false => "",

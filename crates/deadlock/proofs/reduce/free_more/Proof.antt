@@ -1,15 +1,15 @@
 -- `free_more` meets its contract. The loop's invariant: the nodes passed were visited in turn. Assumes nothing.
-use mathlib.Core.Path.{_≡_, ap, sym, _∙_}
 use mathlib.Core.Logic.{⊎-elim}
+use mathlib.Core.Path.{_≡_, ap, sym, _∙_}
 use Prim.Native.Nat.{_≤_, _-_}
 use native.Mathlib.Omega.{arith}
 use borrow.Author.Needs.{needs}
+use Rattle.lemmas.proofs.Cases.{flag}
 use Rattle.nodes.specs.Words.{num}
 use Rattle.waits.specs.Rows.{waitsOf}
-use Rattle.deadlock.specs.Sweeps.{sweep, freeing}
+use Rattle.deadlock.proofs.Reduction.{joins, joins-not}
 use Rattle.deadlock.proofs.Sweeps.{sweep-whole, sweep-none, sweep-more}
-use Rattle.deadlock.proofs.Cases.{met}
-use Rattle.deadlock.proofs.Reduction.{freeing-yes, freeing-no}
+use Rattle.deadlock.specs.Sweeps.{sweep, freeing}
 use Rattle.deadlock.proofs.reduce.free_more.Statement.{statement}
 use Rattle.deadlock.proofs.reduce.free_more.Tie as tie
 
@@ -22,11 +22,8 @@ abbrev μ-loop : tie.MeasureT-loop
 loop-holds : tie.Need-loop-holds Inv-loop μ-loop
 loop-holds c = (sym (sweep-none _ _), search needs)
 
-row-at-requires : tie.Need-row-at-requires Inv-loop μ-loop
-row-at-requires c κs = omega arith
-
-holds-requires : tie.Need-holds-requires Inv-loop μ-loop
-holds-requires c κs = search needs
+joins-requires : tie.Need-joins-requires Inv-loop μ-loop
+joins-requires c κs = search needs
 
 with-requires : tie.Need-with-requires Inv-loop μ-loop
 with-requires c κs = omega arith
@@ -38,7 +35,7 @@ loop-less : tie.Need-loop-less Inv-loop μ-loop
 loop-less c = omega arith
 
 loop-again : tie.Need-loop-again Inv-loop μ-loop
-loop-again c = (⊎-elim (λ v. ap num (v .2) ∙ sweep-more _ _ _ _ _ (c .before .before .before .before .loop .inv .0) (v .1 .ensures ∙ freeing-yes _ _ _ (met _ _ _ (c .before .holds .ensures) (c .before .before .row-at .ensures) (v .0 .taken)))) (λ v. ap num (v .1) ∙ sweep-more _ _ _ _ _ (c .before .before .before .before .loop .inv .0) (freeing-no _ _ _ (met _ _ _ (c .before .holds .ensures) (c .before .before .row-at .ensures) (v .0 .left)))) (c .if1 .came), omega arith)
+loop-again c = (⊎-elim (λ v. ap num (v .2) ∙ sweep-more _ _ _ _ _ (c .before .before .before .loop .inv .0) (v .1 .ensures ∙ joins _ _ _ (flag (c .before .joins .ensures) (v .0 .taken)))) (λ v. ap num (v .1) ∙ sweep-more _ _ _ _ _ (c .before .before .before .loop .inv .0) (joins-not _ _ _ (flag (c .before .joins .ensures) (v .0 .left)))) (c .if1 .came), omega arith)
 
 returns : tie.Need-returns Inv-loop μ-loop
 returns c = sweep-whole _ _ _ _ _ (omega arith) (c .before .loop .inv .0)
@@ -50,8 +47,7 @@ free-more-spec =
     Inv-loop
     μ-loop
     loop-holds
-    row-at-requires
-    holds-requires
+    joins-requires
     with-requires
     add-k
     loop-less

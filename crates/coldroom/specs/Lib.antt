@@ -1,0 +1,3 @@
+-- What the calls for C hand back, and what they leave in lent memory.
+pub mod Results
+pub mod Left
