@@ -32,7 +32,7 @@ static void transmit(struct message m)
     sent[count++] = m;
 }
 
-/* Sends what a step has to send. A controller that may lose power stores its record before this. */
+/* Sends what a step has to send. */
 static void send_all(const struct controller *c, const uint64_t sends[COLDROOM_SENDS])
 {
     for (uint64_t kind = 0; kind < COLDROOM_SENDS; kind++)
@@ -79,7 +79,8 @@ static const char *words(uint64_t value)
     case COLDROOM_TAKEN_NOT_DEADLOCKED: return "taken not-deadlocked";
     case COLDROOM_OPENED: return "opened";
     case COLDROOM_OPENED_DEADLOCKED: return "opened deadlocked";
-    default: return "opened not-deadlocked";
+    case COLDROOM_OPENED_NOT_DEADLOCKED: return "opened not-deadlocked";
+    default: return "unknown";
     }
 }
 

@@ -56,6 +56,7 @@ function stop(why) {
     sub(/[-+]0x[0-9a-f]+$/, "", $NF)
     callee[f, ++calls[f]] = $NF
     arguments[f, calls[f]] = pushed
+    named++
     next
 }
 
@@ -75,6 +76,7 @@ function stop(why) {
     } else if (operation ~ /^call/) {
         if (/\*/) stop(f " calls it is not known whom")
         framed[f] = 1
+        made++
     } else if (match($0, /-?(0x)?[0-9a-f]+\(%rsp\)/)) {
         offset(signed(substr($0, RSTART, RLENGTH - 6)))
     }
@@ -82,5 +84,6 @@ function stop(why) {
 
 END {
     if (stopped) exit 1
+    if (named != made) stop(made " calls, of which " named " say whom they call")
     for (f in frame) if (f ~ /^coldroom_/) print f, most(f) + int((passed[f] + 15) / 16) * 16
 }

@@ -139,13 +139,14 @@ static void read_content(struct taken *taken)
     }
 }
 
-/* Puts the content between two guards. An empty slice may have any pointer: it gets one that nothing can be read from. */
+/* Puts the content between two guards. An empty slice may have any pointer: it gets NULL, or another that nothing can be read
+ * from, in turn from line to line. */
 static void read_slice(struct taken *taken, size_t size, int only_read)
 {
     size_t whole = (size_t)taken->number * size;
     taken->size = size;
     if (whole == 0) {
-        taken->place = (void *)8;
+        taken->place = line % 2 ? NULL : (void *)8;
         return;
     }
     taken->block = memory(whole + 2 * GUARD);
@@ -256,8 +257,9 @@ static void serve_line(void)
 
 int main(void)
 {
-    signal(SIGSEGV, crashed);
-    signal(SIGBUS, crashed);
+    static const int deadly[] = {SIGSEGV, SIGBUS, SIGILL, SIGFPE, SIGTRAP, SIGABRT};
+    for (size_t k = 0; k < sizeof deadly / sizeof *deadly; k++)
+        signal(deadly[k], crashed);
     while (peek() != EOF)
         serve_line();
     flush();

@@ -5,7 +5,8 @@
 #include <stdio.h>
 #include <string.h>
 
-enum { NODES = 64, ROW = 6, RECORD = 7, ROOM = 4096, STEPS = 200, TRIALS = 1000, STACK = 1 << 16, PAINT = 0xA5 };
+enum { NODES = COLDROOM_NODES, ROW = COLDROOM_ROW, RECORD = COLDROOM_RECORD, ROOM = COLDROOM_MESSAGES };
+enum { STEPS = 200, TRIALS = 1000, STACK = 1 << 16, PAINT = 0xA5 };
 
 static unsigned char stack[STACK] __attribute__((aligned(16)));
 
@@ -14,8 +15,8 @@ static unsigned char *before;
 
 /* What the calls are handed. */
 static uint64_t nodes, node, rows[NODES * ROW], rows_len;
-static uint64_t records[NODES * RECORD], messages[ROOM], places, sent, highest, steps[STEPS], answers[STEPS];
-static uint64_t ins, record[RECORD], sends[4], set, kind, a, b;
+static uint64_t records[NODES * RECORD], records_len, messages[ROOM], places, sent, highest, steps[STEPS], answers[STEPS];
+static uint64_t ins, record[RECORD], sends[COLDROOM_SENDS], set, kind, a, b;
 static uint8_t list[NODES], room[NODES];
 static uint64_t list_len, room_len;
 
@@ -63,6 +64,7 @@ static void draw_graph(void)
     static const uint64_t sizes[] = {1, 2, 3, 5, 8, 16, 24, 64};
     nodes = sizes[below(8)];
     rows_len = nodes * ROW;
+    records_len = nodes * RECORD;
     for (uint64_t me = 0; me < nodes; me++)
         draw_row(rows + me * ROW, me);
     if (below(3) == 0)
@@ -136,8 +138,8 @@ CALL(check_evidence, nodes, rows, rows_len, node, list, list_len)
 CALL(ring, nodes, rows, rows_len, node)
 CALL(open, nodes, node, rows, rows_len, ins, record, b, sends)
 CALL(deliver, nodes, node, rows, rows_len, ins, record, kind, a, node, b, sends)
-CALL(step, nodes, rows, rows_len, records, nodes * RECORD, messages, places, &sent, &highest, kind, a, b)
-CALL(run, nodes, rows, rows_len, records, nodes * RECORD, messages, places, &sent, &highest, steps, STEPS, answers, STEPS)
+CALL(step, nodes, rows, rows_len, records, records_len, messages, places, &sent, &highest, kind, a, b)
+CALL(run, nodes, rows, rows_len, records, records_len, messages, places, &sent, &highest, steps, STEPS, answers, STEPS)
 
 /* Goes over to the painted stack for the call. */
 static void on_painted_stack(void (*call)(void))

@@ -26,7 +26,7 @@ const JUDGES_OF_ROWS: [&str; 8] = [
 
 /// An opening never ends deadlocked: a node that isn't free has waits.
 #[rustfmt::skip]
-const EXPECTED: [(&str, &str); 23] = [
+const EXPECTED: [(&str, &str); 24] = [
     ("check:", "accepted, refused 1, refused 8"),
     ("deadlocked:", "no, yes, refused 1, refused 8, refused 9"),
     ("all_deadlocked:", "written, refused 1, refused 8"),
@@ -37,6 +37,7 @@ const EXPECTED: [(&str, &str); 23] = [
     ("ring:", "not deadlocked, in, behind, refused 1, refused 8, refused 9"),
     ("open:", "120, 122, refused 1, refused 9, refused 10, refused 13"),
     ("open 13 for:", "IN, a record's round, a record's call, a record's freed, a record's set"),
+    ("controller of:", "1 node, 2 to 63 nodes, 64 nodes, 64 nodes and the last"),
     ("deliver:", "100, 101, 102, 110, 111, 112, refused 1, refused 9, refused 13"),
     ("deliver 13 for:", "IN, a record's round, a record's call, a record's freed, a record's set, a message's kind, \
         a message's sender, a message's receiver, a message of round 0, a message's round"),
@@ -95,10 +96,20 @@ impl CallTally {
             Check(rows) | Deadlocked(rows, _) | AllDeadlocked(rows, _) | Ring(rows, _) => {
                 self.graph(rows)
             }
-            WriteEvidence(rows, _, room) => self.room(rows, room.len()),
-            CheckEvidence(_, _, list) => self.list(list, result),
-            Open(alone, _) => self.strange(name, result, alone, None),
+            WriteEvidence(rows, _, room) => {
+                self.graph(rows);
+                self.room(rows, room.len());
+            }
+            CheckEvidence(rows, _, list) => {
+                self.graph(rows);
+                self.list(list, result);
+            }
+            Open(alone, _) => {
+                self.controller(alone);
+                self.strange(name, result, alone, None);
+            }
             Deliver(alone, letter) => {
+                self.controller(alone);
                 self.strange(name, result, alone, Some(*letter));
                 self.delivered(alone, *letter, result);
             }
@@ -145,6 +156,19 @@ impl CallTally {
         self.add("list of evidence", length(list.len()));
         if list.len() > 64 && result == SAID + 1 {
             self.add("list of evidence", "of more than 64 and passing");
+        }
+    }
+
+    fn controller(&mut self, alone: &Alone) {
+        let ending = match alone.nodes {
+            1 => "1 node",
+            2..=63 => "2 to 63 nodes",
+            64 => "64 nodes",
+            _ => return,
+        };
+        self.add("controller of", ending);
+        if (alone.nodes, alone.me) == (64, 63) {
+            self.add("controller of", "64 nodes and the last");
         }
     }
 

@@ -104,7 +104,8 @@ impl CallTrial<'_> {
 
     fn shown(&self, index: u64, expected: &str, got: &[u8]) -> String {
         let asked = drawn_calls::draw(self.seed, index).asked();
-        let got = String::from_utf8_lossy(got);
+        // A line that was cut off gets the end that it lacks.
+        let got = format!("{}\n", String::from_utf8_lossy(got).trim_end());
         let place = format!("call {index} of seed {}", self.seed);
         let word = first_difference(expected, &got);
         format!("asked:\n{asked}expected:\n{expected}got:\n{got}calls: differs at {place}, {word}")

@@ -52,12 +52,20 @@ fn handed(rng: &mut Prng, nodes: usize, node: &Node, row: &[u64]) -> Alone {
     }
 }
 
+/// The last one often, whose bit in a set is the highest.
+fn any_node(rng: &mut Prng, nodes: usize) -> usize {
+    match rng.chance(20) {
+        true => nodes - 1,
+        false => rng.below(nodes),
+    }
+}
+
 fn in_a_run(rng: &mut Prng) -> (Alone, Letter) {
     let mut moment = moments::draw(rng);
     let nodes = moment.bench.graph.len();
     let sent = &moment.bench.sent;
     let real = (!sent.is_empty() && rng.chance(60)).then(|| *rng.pick(sent));
-    let me = real.map_or_else(|| rng.below(nodes), |message| message.to);
+    let me = real.map_or_else(|| any_node(rng, nodes), |message| message.to);
     let node = &mut moment.bench.graph.nodes[me];
     if rng.chance(10) {
         // A node by itself can't tell whether its IN fits any graph.
