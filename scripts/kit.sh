@@ -5,9 +5,10 @@ if ! command -v rt >/dev/null; then
 fi
 kit=${RATTLE_HOME:-$(dirname "$(dirname "$(readlink -f "$(command -v rt)")")")}
 
-# Runs the proved program target/bin/NAME or else the program of C target/c/NAME. Programs are for x86-64: on another processor the
-# kit has an emulator.
-start() { # NAME
+# How the proved program target/bin/NAME is started, or else the program of C target/c/NAME: as words in `started`. Programs are for
+# x86-64: on another processor the kit has an emulator.
+started=()
+words_for() { # NAME
     local tools=$kit/on/$(uname -m)/toolchain
     local emulator=$tools/bin/qemu-x86_64 program=target/bin/$1
     [ -e "$program" ] || program=target/c/$1
@@ -15,11 +16,11 @@ start() { # NAME
         echo "$(basename "$0"): there is neither target/bin/$1 nor target/c/$1; build it first" >&2
         return 2
     fi
-    [ -x "$emulator" ] || emulator=''
-    # What this machine's own gcc has linked runs with this machine's own libraries.
-    if [ -z "$emulator" ] && [ "$program" = "target/c/$1" ]; then
-        "$program"
-    else
-        ${emulator:+"$emulator"} "$tools/lib/ld-linux-x86-64.so.2" --library-path "$tools/lib" "$program"
+    started=("$tools/lib/ld-linux-x86-64.so.2" --library-path "$tools/lib" "$program")
+    if [ -x "$emulator" ]; then
+        started=("$emulator" "${started[@]}")
+    elif [ "$program" = "target/c/$1" ]; then
+        # What this machine's own gcc has linked runs with this machine's own libraries.
+        started=("$program")
     fi
 }
