@@ -77,8 +77,8 @@ enum {
     COLDROOM_TAKEN = 110,                /* taken, and no verdict */
     COLDROOM_TAKEN_DEADLOCKED = 111,     /* taken, and it ended the round: the initiator is deadlocked */
     COLDROOM_TAKEN_NOT_DEADLOCKED = 112, /* the same: the initiator is not deadlocked */
-    COLDROOM_OPENED = 120,               /* the same three of an opening */
-    COLDROOM_OPENED_DEADLOCKED = 121,
+    COLDROOM_OPENED = 120,               /* the same three of an opening; */
+    COLDROOM_OPENED_DEADLOCKED = 121,    /* this one never comes: a node that waits must hear from others first */
     COLDROOM_OPENED_NOT_DEADLOCKED = 122
 };
 
@@ -138,8 +138,8 @@ uint64_t coldroom_ring(uint64_t nodes, const uint64_t *rows, uint64_t rows_lengt
  * would see to. A controller sees none of this by itself. After a claim has changed, ask by a round that is opened when everybody
  * concerned has the new row and IN. */
 
-/* The controller opens a round. Value 120 opened; 121 or 122 if the round has ended with that. It does so at a node that waits for
- * nobody and on which nobody waits, by 122. */
+/* The controller opens a round. Value 120 opened; 122 opened, and the round has ended, not deadlocked, which it does at once at a
+ * node that waits for nobody and on which nobody waits, and at no other. */
 uint64_t coldroom_open(uint64_t nodes, uint64_t me, const uint64_t *row, uint64_t row_length, uint64_t in,
                        uint64_t record[COLDROOM_RECORD], uint64_t round, uint64_t sends[COLDROOM_SENDS]);
 

@@ -37,7 +37,7 @@ use Rattle.lent.specs.Coded.{baseOf, messageOf, numberOf}
 use Rattle.lent.proofs.Letters.{kind-number-le, letters-numbers}
 use Rattle.lent.proofs.Back.{length-put, record-back, record-kept, message-kind, message-from, message-to, message-round}
 use Rattle.bench.specs.Bench.{Bench, After, bench, after, room, roomOf}
-use Rattle.bench.specs.Strange.{strangeKept, strangeSent, strangeMessages, Good}
+use Rattle.bench.specs.Strange.{strangeRecordOn, strangeMessageOn, strangeMessages, Good}
 use Rattle.bench.specs.Steps.{refuse, join, arriveAt, stepOn, takeStep}
 use Rattle.bench.proofs.Ways.{Way, step-way}
 use Rattle.bench.proofs.Ways.Way.{refused, opened, arrived}
@@ -45,8 +45,8 @@ use Rattle.bench.proofs.Sound.{Sound, good-sound, sound-good, shaped, r
 
 -- ---- what a node sends can be
 letter-fine : (n highest : ℕ) (m : Letter) → n ≤ places → m .from < n → m .to < n → noRound (m .round) ≡ false → ahead (m .round) highest ≡ false
-    → strangeSent n highest (messageOf (numberOf m)) ≡ false
-unfolding strangeSent strangeMessage noNode
+    → strangeMessageOn n highest (messageOf (numberOf m)) ≡ false
+unfolding strangeMessageOn strangeMessage noNode
 letter-fine n highest m h f t e g =
     let f′ : m .from < 256 = omega arith in
     let t′ : m .to < 256 = omega arith in
@@ -61,8 +61,8 @@ module _ (n highest i round : ℕ) (few : n ≤ places) (from : i < n) (exists :
   kind-fine : (kind : Kind) (s : ℕ) → Inside s (below n) → strangeMessages n highest (map numberOf (letters kind i round s)) ≡ false
   unfolding strangeMessages numberOf
   kind-fine kind s to =
-      subst (λ (l : List ℕ). anyOf (λ x. strangeSent n highest (messageOf x)) l ≡ false) (letters-numbers kind i round s)
-      (any-map (λ x. strangeSent n highest (messageOf x)) (λ k. baseOf kind i round + k) (members s)
+      subst (λ (l : List ℕ). anyOf (λ x. strangeMessageOn n highest (messageOf x)) l ≡ false) (letters-numbers kind i round s)
+      (any-map (λ x. strangeMessageOn n highest (messageOf x)) (λ k. baseOf kind i round + k) (members s)
       (λ k m. letter-fine n highest (record { kind = kind; from = i; to = k; round = round }) few from
       (in-below n k .0 (inside-member s (below n) k to (members-in s k .0 m))) exists low))
 
@@ -70,8 +70,8 @@ module _ (n highest i round : ℕ) (few : n ≤ places) (from : i < n) (exists :
       → strangeMessages n highest (map numberOf (xs ++ ys)) ≡ false
   unfolding strangeMessages
   then-fine xs ys e f =
-      ap (anyOf (λ x. strangeSent n highest (messageOf x))) (map-append numberOf xs ys)
-      ∙ any-append (λ x. strangeSent n highest (messageOf x)) (map numberOf xs) (map numberOf ys) e f
+      ap (anyOf (λ x. strangeMessageOn n highest (messageOf x))) (map-append numberOf xs ys)
+      ∙ any-append (λ x. strangeMessageOn n highest (messageOf x)) (map numberOf xs) (map numberOf ys) e f
 
   pub new-fine : (r : Receivers) → ToAmong n r → strangeMessages n highest (map numberOf (lettersOf i round r)) ≡ false
   unfolding lettersOf
@@ -84,13 +84,13 @@ module _ (n highest i round : ℕ) (few : n ≤ places) (from : i < n) (exists :
 abbrev Later : ℕ → ℕ → Type 0
 Later old highest = (round : ℕ) → ahead round old ≡ false → ahead round highest ≡ false
 
-kept-later : (n old highest : ℕ) (s : State) → Later old highest → strangeKept n old s ≡ false → strangeKept n highest s ≡ false
-unfolding strangeKept
+kept-later : (n old highest : ℕ) (s : State) → Later old highest → strangeRecordOn n old s ≡ false → strangeRecordOn n highest s ≡ false
+unfolding strangeRecordOn
 kept-later n old highest s later e =
     ap₂ _||_ (or-left-false (strangeRecord n s) _ e) (later (s .round) (or-right-false (strangeRecord n s) _ e))
 
-sent-later : (n old highest : ℕ) (m : Message) → Later old highest → strangeSent n old m ≡ false → strangeSent n highest m ≡ false
-unfolding strangeSent
+sent-later : (n old highest : ℕ) (m : Message) → Later old highest → strangeMessageOn n old m ≡ false → strangeMessageOn n highest m ≡ false
+unfolding strangeMessageOn
 sent-later n old highest m later e =
     ap₂ _||_ (or-left-false (strangeMessage n m) _ e) (later (m .round .0) (or-right-false (strangeMessage n m) _ e))
 
@@ -106,7 +106,7 @@ joined l new sent h =
     (length-append (take sent l) new ∙ ap (λ (x : ℕ). x + length new) (length-take-le sent l (omega arith)))
 
 module _ (n : ℕ) (rows : List ℕ) (b : Bench) (s : Sound n rows b) (highest i : ℕ) (out : Outcome) (there : i < n) (last : highest ≤ lastRound)
-    (later : Later (b .highest) highest) (fine : strangeKept n highest (out .state) ≡ false)
+    (later : Later (b .highest) highest) (fine : strangeRecordOn n highest (out .state) ≡ false)
     (sends : strangeMessages n highest (map numberOf (lettersOf i (out .state .round) (out .sends))) ≡ false) where
   abbrev new : List Letter
   new = lettersOf i (out .state .round) (out .sends)
@@ -114,25 +114,25 @@ module _ (n : ℕ) (rows : List ℕ) (b : Bench) (s : Sound n rows b) (highest i
   abbrev next : Bench
   next = bench (putState (b .records) i (out .state)) (sets (b .messages) (b .sent) (map numberOf new)) (b .sent + length new) highest
 
-  next-kept : (j : ℕ) → j < n → strangeKept n highest (stateAt (putState (b .records) i (out .state)) j) ≡ false
+  next-kept : (j : ℕ) → j < n → strangeRecordOn n highest (stateAt (putState (b .records) i (out .state)) j) ≡ false
   next-kept j h = elim (ℕ-discrete j i) [
-    | yes e ↦ subst (λ (x : State). strangeKept n highest x ≡ false)
+    | yes e ↦ subst (λ (x : State). strangeRecordOn n highest x ≡ false)
         (sym (ap (stateAt (putState (b .records) i (out .state))) e ∙ record-back (b .records) i (out .state) (record-there n rows b s i there))) fine
-    | no d ↦ subst (λ (x : State). strangeKept n highest x ≡ false) (sym (record-kept (b .records) i j (out .state) (apart i j d)))
+    | no d ↦ subst (λ (x : State). strangeRecordOn n highest x ≡ false) (sym (record-kept (b .records) i j (out .state) (apart i j d)))
         (kept-later n (b .highest) highest (stateAt (b .records) j) later (s .kept j h))
   ]
 
   next-listed : b .sent + length new ≤ room b → strangeMessages n highest (take (b .sent + length new) (sets (b .messages) (b .sent) (map numberOf new))) ≡ false
   unfolding strangeMessages
   next-listed h =
-      let p : ℕ → Bool = λ x. strangeSent n highest (messageOf x) in
+      let p : ℕ → Bool = λ x. strangeMessageOn n highest (messageOf x) in
       let c : length (map numberOf new) ≡ length new = length-map new numberOf in
       let l : take (b .sent + length new) (sets (b .messages) (b .sent) (map numberOf new)) ≡ take (b .sent) (b .messages) ++ map numberOf new =
       ap (λ (x : ℕ). take (b .sent + x) (sets (b .messages) (b .sent) (map numberOf new))) (sym c)
       ∙ joined (b .messages) (map numberOf new) (b .sent) (omega (arith, c, room-le (length (b .messages)))) in
       ap (anyOf p) l
       ∙ any-append p (take (b .sent) (b .messages)) (map numberOf new)
-      (any-weaker (λ x. strangeSent n (b .highest) (messageOf x)) p (take (b .sent) (b .messages)) (λ x e. sent-later n (b .highest) highest (messageOf x) later e) (s .listed))
+      (any-weaker (λ x. strangeMessageOn n (b .highest) (messageOf x)) p (take (b .sent) (b .messages)) (λ x e. sent-later n (b .highest) highest (messageOf x) later e) (s .listed))
       sends
 
   joins : (t : Bool) → ltb (room b) (b .sent + length new) ≡ t → Sound n rows (cond t (refuse 12 b) (after next (out .answer)) .bench)
@@ -171,8 +171,8 @@ module _ (n : ℕ) (rows : List ℕ) (b : Bench) (s : Sound n rows b) where
 
     -- its record can be, so can its messages, and they go to nodes
     fine-as : (st : State) (r : Receivers) → Within n round st r
-        → (strangeKept n round st ≡ false) × (strangeMessages n round (map numberOf (lettersOf i (st .round) r)) ≡ false) × ToAmong n r
-    unfolding strangeKept
+        → (strangeRecordOn n round st ≡ false) × (strangeMessages n round (map numberOf (lettersOf i (st .round) r)) ≡ false) × ToAmong n r
+    unfolding strangeRecordOn
     fine-as st r w =
         let same = ap (λ (x : ℕ). ahead x round) (w .in-round) ∙ not-ahead-itself round in
         let e = ap noRound (w .in-round) ∙ exists in
@@ -181,7 +181,7 @@ module _ (n : ℕ) (rows : List ℕ) (b : Bench) (s : Sound n rows b) where
     abbrev begun : Outcome
     begun = openRound (seenIn (waitsOf n rows) i) round
 
-    pub opened-fine : (strangeKept n round (begun .state) ≡ false) × (strangeMessages n round (map numberOf (lettersOf i (begun .state .round) (begun .sends))) ≡ false)
+    pub opened-fine : (strangeRecordOn n round (begun .state) ≡ false) × (strangeMessages n round (map numberOf (lettersOf i (begun .state .round) (begun .sends))) ≡ false)
         × ToAmong n (begun .sends)
     opened-fine = fine-as (begun .state) (begun .sends) (open-among n (seenIn (waitsOf n rows) i) (out-among n rows b s i there) (ins-among n rows b s i) round)
 
@@ -191,37 +191,37 @@ module _ (n : ℕ) (rows : List ℕ) (b : Bench) (s : Sound n rows b) where
         (λ r e. not-ahead-later r (b .highest) round e above) (opened-fine .0) (opened-fine .1)
 
   -- ---- a message that was sent
-  module _ (m : Message) (fine : strangeSent n (b .highest) m ≡ false) where
+  module _ (m : Message) (fine : strangeMessageOn n (b .highest) m ≡ false) where
     pub from-there : m .from .0 < n
-    unfolding strangeSent strangeMessage noNode
+    unfolding strangeMessageOn strangeMessage noNode
     from-there =
         leb-false n (m .from .0) (or-left-false _ _ (or-right-false (leb kinds (m .kind)) _ (or-left-false (strangeMessage n m) (ahead (m .round .0) (b .highest)) fine)))
 
     pub to-there : m .to .0 < n
-    unfolding strangeSent strangeMessage noNode
+    unfolding strangeMessageOn strangeMessage noNode
     to-there =
         leb-false n (m .to .0) (or-left-false _ _ (or-right-false (noNode n (m .from .0)) _
         (or-right-false (leb kinds (m .kind)) _ (or-left-false (strangeMessage n m) (ahead (m .round .0) (b .highest)) fine))))
 
     sent-exists : noRound (m .round .0) ≡ false
-    unfolding strangeSent strangeMessage noNode
+    unfolding strangeMessageOn strangeMessage noNode
     sent-exists =
         or-right-false (noNode n (m .to .0)) _ (or-right-false (noNode n (m .from .0)) _
         (or-right-false (leb kinds (m .kind)) _ (or-left-false (strangeMessage n m) (ahead (m .round .0) (b .highest)) fine)))
 
     low : ahead (m .round .0) (b .highest) ≡ false
-    unfolding strangeSent
+    unfolding strangeMessageOn
     low = or-right-false (strangeMessage n m) _ fine
 
     abbrev was : State
     was = stateAt (b .records) (m .to .0)
 
     pub was-record : strangeRecord n was ≡ false
-    unfolding strangeKept
+    unfolding strangeRecordOn
     was-record = or-left-false _ _ (s .kept (m .to .0) to-there)
 
     was-low : ahead (was .round) (b .highest) ≡ false
-    unfolding strangeKept
+    unfolding strangeRecordOn
     was-low = or-right-false (strangeRecord n was) _ (s .kept (m .to .0) to-there)
 
     was-among : (was .round ≤ lastRound) × Among n was
@@ -232,12 +232,12 @@ module _ (n : ℕ) (rows : List ℕ) (b : Bench) (s : Sound n rows b) where
 
     abbrev Fine : Outcome → Type 0
     Fine o =
-        (strangeKept n (b .highest) (o .state) ≡ false)
+        (strangeRecordOn n (b .highest) (o .state) ≡ false)
         × (strangeMessages n (b .highest) (map numberOf (lettersOf (m .to .0) (o .state .round) (o .sends))) ≡ false)
         × ToAmong n (o .sends)
 
     taken-fine : Within n (inRound (m .round .0) was .round) (out .state) (out .sends) → Fine out
-    unfolding strangeKept
+    unfolding strangeRecordOn
     taken-fine w =
         let e = ap noRound (w .in-round) ∙ in-round-exists (m .round .0) was sent-exists (was-among .0) in
         let l = ap (λ (x : ℕ). ahead x (b .highest)) (w .in-round) ∙ in-round-not-ahead (m .round .0) was (b .highest) low was-low in (

@@ -8,3 +8,4 @@ pub mod Turns
 pub mod Frame
 pub mod Unique
 pub mod Made
+pub mod Open

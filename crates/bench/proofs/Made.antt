@@ -1,5 +1,5 @@
 -- A check or a step made of what its callees said, over plain variables. Assumes nothing.
-use mathlib.Core.Path.{_≡_, sym, ap, ap₂, _∙_, subst}
+use mathlib.Core.Path.{_≡_, sym, ap, _∙_, subst}
 use mathlib.Core.Bool.{Bool, true, false}
 use mathlib.Core.List.{List, map}
 use Prim.Native.Nat.{ℕ, _+_, _*_, _≤_, _<_}
@@ -24,23 +24,23 @@ use Rattle.records.specs.Messages.{Letter, letterOf}
 use Rattle.records.specs.Records.{Fitting, stateOf}
 use Rattle.records.proofs.Fits.{record-fits}
 use Rattle.records.proofs.Among.{record-among}
-use Rattle.waits.specs.declared.rows.Row.{Row}
 use Rattle.waits.specs.declared.numbers.Checked.{Checked}
 use Rattle.waits.specs.declared.numbers.Checked.the-variants.{Refused}
-use Rattle.waits.specs.Waits.{Waits, inOf}
-use Rattle.waits.specs.Rows.{rowAt, outOf, holdsOf, waitsOf, Shaped}
+use Rattle.waits.specs.Waits.{Waits}
+use Rattle.waits.specs.Rows.{waitsOf, Shaped}
 use Rattle.waits.specs.Numbers.{checkOf}
 use Rattle.waits.proofs.Table.{accepted-shaped}
 use Rattle.step.specs.Step.{Seen, Outcome, seenIn, openRound, receive}
 use Rattle.step.specs.Letters.{lettersOf, howMany}
 use Rattle.step.specs.Sent.{toWhom}
+use Rattle.step.proofs.Said.{received-as}
 use Rattle.step.proofs.Among.{ToAmong}
 use Rattle.step.proofs.Letters.{letters-count}
 use Rattle.lent.specs.Kept.{recordSize, recordAt, stateAt, putState}
 use Rattle.lent.specs.Coded.{messageOf, numberOf}
 use Rattle.bench.specs.declared.steps.Reply.{Reply}
 use Rattle.bench.specs.Bench.{Bench, After, bench, after, refusal, roomOf, mostRoom}
-use Rattle.bench.specs.Strange.{isRefused, strangeKept, strangeSent, strangeRecords, strangeMessages, Good}
+use Rattle.bench.specs.Strange.{isRefused, strangeRecordOn, strangeMessageOn, strangeRecords, strangeMessages, Good}
 use Rattle.bench.specs.Steps.{refuse, join, arriveAt}
 use Rattle.bench.specs.Runs.{run, refuseAll}
 use Rattle.bench.specs.Replies.{refused}
@@ -49,19 +49,19 @@ use Rattle.bench.proofs.Keeping.{opened-fine, from-there, to-there, was
 
 -- ---- a walk over the records
 abbrev pub NoneBelow : ℕ → ℕ → List ℕ → ℕ → Type 0
-NoneBelow n highest records i = anyBelow (λ j. strangeKept n highest (stateAt records j)) i ≡ false
+NoneBelow n highest records i = anyBelow (λ j. strangeRecordOn n highest (stateAt records j)) i ≡ false
 
-module _ (n highest : ℕ) (records : List ℕ) (i : ℕ) {x : Record} {r : Bool} (e : x ≡ recordAt records i) (f : r ≡ strangeKept n highest (stateOf x)) where
-  there : {b : Bool} → r ≡ b → strangeKept n highest (stateAt records i) ≡ b
+module _ (n highest : ℕ) (records : List ℕ) (i : ℕ) {x : Record} {r : Bool} (e : x ≡ recordAt records i) (f : r ≡ strangeRecordOn n highest (stateOf x)) where
+  there : {b : Bool} → r ≡ b → strangeRecordOn n highest (stateAt records i) ≡ b
   unfolding stateAt
-  there g = sym (f ∙ ap (λ (y : Record). strangeKept n highest (stateOf y)) e) ∙ g
+  there g = sym (f ∙ ap (λ (y : Record). strangeRecordOn n highest (stateOf y)) e) ∙ g
 
   pub record-found : i < n → r ≡ true → true ≡ strangeRecords n highest records
   unfolding strangeRecords
-  record-found h g = some-below (λ j. strangeKept n highest (stateAt records j)) n i h (there g)
+  record-found h g = some-below (λ j. strangeRecordOn n highest (stateAt records j)) n i h (there g)
 
   pub record-passed : NoneBelow n highest records i → r ≡ false → NoneBelow n highest records (i + 1)
-  record-passed h g = below-next (λ j. strangeKept n highest (stateAt records j)) i h (there g)
+  record-passed h g = below-next (λ j. strangeRecordOn n highest (stateAt records j)) i h (there g)
 
 pub records-passed : (n highest : ℕ) (records : List ℕ) {i : ℕ} → i ≡ n → NoneBelow n highest records i → false ≡ strangeRecords n highest records
 unfolding strangeRecords
@@ -70,7 +70,7 @@ records-passed n highest records e h = sym (rw e at h)
 -- ---- a walk over the messages sent
 module _ (n highest sent : ℕ) (messages : List ℕ) (room : sent ≤ length messages) (k : ℕ) where
   abbrev strange : ℕ → Bool
-  strange x = strangeSent n highest (messageOf x)
+  strange x = strangeMessageOn n highest (messageOf x)
 
   abbrev pub SentLeft : Type 0
   SentLeft = AnyLeft strange (take sent messages) k
@@ -78,17 +78,17 @@ module _ (n highest sent : ℕ) (messages : List ℕ) (room : sent ≤ length me
   long : length (take sent messages) ≡ sent
   long = length-take-le sent messages room
 
-  asked : {m : Message} {r b : Bool} → k < sent → m ≡ messageOf (getD messages k 0) → r ≡ strangeSent n highest m → r ≡ b
+  asked : {m : Message} {r b : Bool} → k < sent → m ≡ messageOf (getD messages k 0) → r ≡ strangeMessageOn n highest m → r ≡ b
       → strange (getD (take sent messages) k 0) ≡ b
-  asked h e f g = ap strange (getD-take sent messages k 0 h) ∙ sym (f ∙ ap (strangeSent n highest) e) ∙ g
+  asked h e f g = ap strange (getD-take sent messages k 0 h) ∙ sym (f ∙ ap (strangeMessageOn n highest) e) ∙ g
 
   module _ (left : SentLeft) where
-    pub message-found : {m : Message} {r : Bool} → k < sent → m ≡ messageOf (getD messages k 0) → r ≡ strangeSent n highest m → r ≡ true
+    pub message-found : {m : Message} {r : Bool} → k < sent → m ≡ messageOf (getD messages k 0) → r ≡ strangeMessageOn n highest m → r ≡ true
         → true ≡ strangeMessages n highest (take sent messages)
     unfolding strangeMessages
     message-found h e f g = any-found strange (take sent messages) k left (omega (arith, long)) (asked h e f g)
 
-    pub message-passed : {m : Message} {r : Bool} → k < sent → m ≡ messageOf (getD messages k 0) → r ≡ strangeSent n highest m → r ≡ false
+    pub message-passed : {m : Message} {r : Bool} → k < sent → m ≡ messageOf (getD messages k 0) → r ≡ strangeMessageOn n highest m → r ≡ false
         → AnyLeft strange (take sent messages) (k + 1)
     message-passed h e f g = any-passed strange (take sent messages) k left (omega (arith, long)) (asked h e f g)
 
@@ -136,20 +136,11 @@ module _ (records messages : List ℕ) (sent : ℕ) (highest : Round) (next i : 
       at-false _ (le-ltb (roomOf (length messages)) (sent + length (lettersOf i (out .state .round) (out .sends))) (omega (arith, room, count)))
       (λ k. after (bench (e k) (f .1 k) ((f .0 ∙ ap (λ (z : ℕ). sent + z) (sym (letters-count i (out .state .round) (out .sends)))) k) next) (out .answer))
 
--- ---- what a node sees
-pub own-seen : (n : ℕ) (rows : List ℕ) (i : ℕ) {row : Row} {ins : ℕ} → row ≡ rowAt rows i → ins ≡ inOf (waitsOf n rows) i
-    → record { me = i; out = outOf row; holds = holdsOf row; ins = ins } ≡ seenIn (waitsOf n rows) i
-own-seen n rows i e f = λ k. record { me = i; out = outOf (e k); holds = holdsOf (e k); ins = f k }
-
--- what it did, made of what it sees
-pub opened-as : (n : ℕ) (rows : List ℕ) (i round : ℕ) {out : Outcome} {o : Seen} → out ≡ openRound o round → o ≡ seenIn (waitsOf n rows) i
-    → out ≡ openRound (seenIn (waitsOf n rows) i) round
-opened-as n rows i round e f = e ∙ ap (λ (x : Seen). openRound x round) f
-
-pub arrived-as : (n : ℕ) (rows records : List ℕ) (i : ℕ) (m : Letter) {out : Outcome} {o : Seen} {r : Record} → out ≡ receive o (stateOf r) m
-    → o ≡ seenIn (waitsOf n rows) i → r ≡ recordAt records i → out ≡ receive (seenIn (waitsOf n rows) i) (stateAt records i) m
+-- ---- what a node does with its record in the list, and with message k
+pub arrived-as : (records : List ℕ) (i : ℕ) (m : Letter) {o p : Seen} {r : Record} {x : Outcome} → x ≡ receive o (stateOf r) m → o ≡ p → r ≡ recordAt records i
+    → x ≡ receive p (stateAt records i) m
 unfolding stateAt
-arrived-as n rows records i m e f g = e ∙ ap₂ (λ (x : Seen) (y : Record). receive x (stateOf y) m) f g
+arrived-as records i m e f g = received-as m e f (ap stateOf g)
 
 pub delivered-as : (w : Waits) (b : Bench) (k : ℕ) {m : Message} {x : After} → x ≡ arriveAt w b (letterOf m) → m ≡ messageOf (getD (b .messages) k 0)
     → x ≡ arriveAt w b (letterOf (messageOf (getD (b .messages) k 0)))
@@ -173,8 +164,8 @@ module _ (n : ℕ) (rows : List ℕ) (b : Bench) (good : Good n rows b) where
   sound : Sound n rows b
   sound = good-sound n rows b good
 
-  joins : (i highest : ℕ) (out : Outcome) → i < n → strangeKept n highest (out .state) ≡ false → ToAmong n (out .sends) → Joins (b .records) (b .sent) i out
-  unfolding strangeKept
+  joins : (i highest : ℕ) (out : Outcome) → i < n → strangeRecordOn n highest (out .state) ≡ false → ToAmong n (out .sends) → Joins (b .records) (b .sent) i out
+  unfolding strangeRecordOn
   joins i highest out h e to =
       let few : n ≤ places = shaped n rows b sound .0 in (
         record-there n rows b sound i h,
@@ -190,7 +181,7 @@ module _ (n : ℕ) (rows : List ℕ) (b : Bench) (good : Good n rows b) where
       let f = opened-fine n rows b sound i round h e in
       subst (Joins (b .records) (b .sent) i) (sym q) (joins i round (openRound (seenIn (waitsOf n rows) i) round) h (f .0) (f .2))
 
-  pub arrive-joins : (m : Message) {out : Outcome} → strangeSent n (b .highest) m ≡ false
+  pub arrive-joins : (m : Message) {out : Outcome} → strangeMessageOn n (b .highest) m ≡ false
       → out ≡ receive (seenIn (waitsOf n rows) (m .to .0)) (stateAt (b .records) (m .to .0)) (letterOf m) → Joins (b .records) (b .sent) (m .to .0) out
   arrive-joins m e q =
       let f = arrived-fine n rows b sound m e in
@@ -198,10 +189,10 @@ module _ (n : ℕ) (rows : List ℕ) (b : Bench) (good : Good n rows b) where
       (joins (m .to .0) (b .highest) (receive (seenIn (waitsOf n rows) (m .to .0)) (stateAt (b .records) (m .to .0)) (letterOf m)) (to-there n rows b sound m e) (f .0) (f .2))
 
   -- and what receiving asks for
-  pub arrive-there : (m : Message) → strangeSent n (b .highest) m ≡ false → (m .to .0 < n) × (m .to .0 * recordSize + recordSize ≤ length (b .records))
+  pub arrive-there : (m : Message) → strangeMessageOn n (b .highest) m ≡ false → (m .to .0 < n) × (m .to .0 * recordSize + recordSize ≤ length (b .records))
   arrive-there m e = let h = to-there n rows b sound m e in (h, record-there n rows b sound (m .to .0) h)
 
-  pub arrive-fits : (m : Message) {r : Record} → strangeSent n (b .highest) m ≡ false → r ≡ recordAt (b .records) (m .to .0)
+  pub arrive-fits : (m : Message) {r : Record} → strangeMessageOn n (b .highest) m ≡ false → r ≡ recordAt (b .records) (m .to .0)
       → (m .from .0 < places) × Fitting (stateOf r)
   unfolding stateAt
   arrive-fits m e q =
@@ -209,5 +200,5 @@ module _ (n : ℕ) (rows : List ℕ) (b : Bench) (good : Good n rows b) where
       let h = from-there n rows b sound m e in
       (omega arith, subst (λ (x : Record). Fitting (stateOf x)) (sym q) (record-fits n _ few (was-record n rows b sound m e)))
 
-  pub sent-there : (k : ℕ) {m : Message} → k < b .sent → m ≡ messageOf (getD (b .messages) k 0) → strangeSent n (b .highest) m ≡ false
-  sent-there k h e = ap (strangeSent n (b .highest)) e ∙ sent-fine n rows b sound k h
+  pub sent-there : (k : ℕ) {m : Message} → k < b .sent → m ≡ messageOf (getD (b .messages) k 0) → strangeMessageOn n (b .highest) m ≡ false
+  sent-there k h e = ap (strangeMessageOn n (b .highest)) e ∙ sent-fine n rows b sound k h

@@ -11,27 +11,26 @@ use borrow.Author.Tests.{not-false, eqb-true, eq-eqb, ltb-false, le-ltb}
 use Rattle.lemmas.proofs.Tests.{or-left-false, or-right-false}
 use Rattle.lemmas.proofs.Lists.{none-at, none-below, all-below}
 use Rattle.nodes.specs.Sets.{Inside, below}
-use Rattle.nodes.proofs.Bit.{in-below, inside-in, in-gather}
 use Rattle.records.specs.Rounds.{lastRound}
 use Rattle.waits.specs.declared.numbers.Checked.{Checked}
 use Rattle.waits.specs.declared.numbers.Checked.the-variants.{Accepted, Refused}
-use Rattle.waits.specs.Waits.{inOf}
 use Rattle.waits.specs.Rows.{waitsOf, Shaped}
 use Rattle.waits.specs.Numbers.{checkOf}
 use Rattle.waits.proofs.Table.{accepted-shaped}
 use Rattle.waits.proofs.Lawful.{accepted-lawful}
+use Rattle.waits.proofs.In.{out-inside, ins-inside}
 use Rattle.step.specs.Step.{seenIn}
 use Rattle.lent.specs.Kept.{recordSize, stateAt}
 use Rattle.lent.specs.Coded.{messageOf}
 use Rattle.bench.specs.Bench.{Bench, room, roomOf, mostRoom}
-use Rattle.bench.specs.Strange.{isRefused, strangeKept, strangeSent, strangeRecords, strangeMessages, strangeBench, Good}
+use Rattle.bench.specs.Strange.{isRefused, strangeRecordOn, strangeMessageOn, strangeRecords, strangeMessages, strangeBench, Good}
 
 pub record Sound (n : ℕ) (rows : List ℕ) (b : Bench) : Type 0 where
   pub accepted : checkOf n rows ≡ Accepted
   pub each : length (b .records) ≡ n * recordSize
   pub within : b .sent ≤ room b
   pub last : b .highest ≤ lastRound
-  pub kept : (i : ℕ) → i < n → strangeKept n (b .highest) (stateAt (b .records) i) ≡ false
+  pub kept : (i : ℕ) → i < n → strangeRecordOn n (b .highest) (stateAt (b .records) i) ≡ false
   pub listed : strangeMessages n (b .highest) (take (b .sent) (b .messages)) ≡ false
 
 pub is-accepted : (c : Checked) → isRefused c ≡ false → c ≡ Accepted
@@ -51,7 +50,7 @@ module _ (n : ℕ) (rows : List ℕ) (b : Bench) where
         each = eqb-true _ _ (not-false _ (or-left-false _ _ f));
         within = ltb-false (room b) (b .sent) (or-left-false _ _ g);
         last = ltb-false lastRound (b .highest) (or-left-false _ _ h);
-        kept = λ k l. none-below (λ j. strangeKept n (b .highest) (stateAt (b .records) j)) n k l (or-left-false _ _ i);
+        kept = λ k l. none-below (λ j. strangeRecordOn n (b .highest) (stateAt (b .records) j)) n k l (or-left-false _ _ i);
         listed = or-right-false (strangeRecords n (b .highest) (b .records)) _ i;
       }
 
@@ -62,7 +61,7 @@ module _ (n : ℕ) (rows : List ℕ) (b : Bench) where
       (ap₂ _||_ (ap not (eq-eqb _ _ (s .each)))
       (ap₂ _||_ (le-ltb (room b) (b .sent) (s .within))
       (ap₂ _||_ (le-ltb lastRound (b .highest) (s .last))
-      (ap₂ _||_ (all-below (λ j. strangeKept n (b .highest) (stateAt (b .records) j)) n (s .kept)) (s .listed)))))
+      (ap₂ _||_ (all-below (λ j. strangeRecordOn n (b .highest) (stateAt (b .records) j)) n (s .kept)) (s .listed)))))
 
 pub room-le : (lent : ℕ) → (roomOf lent ≤ lent) × (roomOf lent ≤ mostRoom)
 unfolding roomOf
@@ -82,18 +81,17 @@ module _ (n : ℕ) (rows : List ℕ) (b : Bench) (s : Sound n rows b) where
   record-there i h = omega (arith, s .each)
 
   -- ---- a message that was sent
-  pub sent-fine : (k : ℕ) → k < b .sent → strangeSent n (b .highest) (messageOf (getD (b .messages) k 0)) ≡ false
+  pub sent-fine : (k : ℕ) → k < b .sent → strangeMessageOn n (b .highest) (messageOf (getD (b .messages) k 0)) ≡ false
   unfolding strangeMessages
   sent-fine k h =
-      let p : ℕ → Bool = λ x. strangeSent n (b .highest) (messageOf x) in
+      let p : ℕ → Bool = λ x. strangeMessageOn n (b .highest) (messageOf x) in
       let l : length (take (b .sent) (b .messages)) ≡ b .sent = length-take-le (b .sent) (b .messages) sent-listed in
       subst (λ (x : ℕ). p x ≡ false) (getD-take (b .sent) (b .messages) k 0 h)
       (none-at p (take (b .sent) (b .messages)) k (omega (arith, l)) (s .listed))
 
   -- ---- whom a node waits on, and who waits on it
   pub out-among : (i : ℕ) → i < n → Inside (seenIn (waitsOf n rows) i .out) (below n)
-  out-among i h = inside-in _ _ (λ j m. in-below n j .1 (accepted-lawful n rows (s .accepted) .closed i j h m))
+  out-among = out-inside (waitsOf n rows) (accepted-lawful n rows (s .accepted))
 
   pub ins-among : (i : ℕ) → Inside (seenIn (waitsOf n rows) i .ins) (below n)
-  unfolding inOf
-  ins-among i = inside-in _ _ (λ j m. in-below n j .1 (in-gather _ n j m .0))
+  ins-among = ins-inside (waitsOf n rows)

@@ -23,19 +23,19 @@ isRefused Accepted = false
 isRefused (Refused r) = true
 
 -- a record with something that doesn't exist, or with a round above the highest opened
-unfoldable pub strangeKept : ℕ → ℕ → State → Bool
-strangeKept n highest s = strangeRecord n s || ahead (s .round) highest
+unfoldable pub strangeRecordOn : ℕ → ℕ → State → Bool
+strangeRecordOn n highest s = strangeRecord n s || ahead (s .round) highest
 
 -- a sent message with something that doesn't exist, round 0 included, or with a round above the highest opened
-unfoldable pub strangeSent : ℕ → ℕ → Message → Bool
-strangeSent n highest m = strangeMessage n m || ahead (m .round .0) highest
+unfoldable pub strangeMessageOn : ℕ → ℕ → Message → Bool
+strangeMessageOn n highest m = strangeMessage n m || ahead (m .round .0) highest
 
 -- some record of a list; some message of those sent
 unfoldable pub strangeRecords : ℕ → ℕ → List ℕ → Bool
-strangeRecords n highest records = anyBelow (λ i. strangeKept n highest (stateAt records i)) n
+strangeRecords n highest records = anyBelow (λ i. strangeRecordOn n highest (stateAt records i)) n
 
 unfoldable pub strangeMessages : ℕ → ℕ → List ℕ → Bool
-strangeMessages n highest sent = anyOf (λ x. strangeSent n highest (messageOf x)) sent
+strangeMessages n highest sent = anyOf (λ x. strangeMessageOn n highest (messageOf x)) sent
 
 -- the graph isn't accepted, there aren't seven numbers to each node, more is sent than the room holds, the highest round is past
 -- the last, or some record or sent message can't be

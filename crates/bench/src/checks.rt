@@ -6,7 +6,7 @@ ghost use Rattle.nodes.specs.Words.{places};
 ghost use Rattle.records.specs.Records.{stateOf};
 ghost use Rattle.lent.specs.Kept.{recordSize};
 ghost use Rattle.bench.specs.Bench.{bench, roomOf};
-ghost use Rattle.bench.specs.Strange.{isRefused, strangeKept, strangeSent, strangeRecords, strangeMessages, strangeBench};
+ghost use Rattle.bench.specs.Strange.{isRefused, strangeRecordOn, strangeMessageOn, strangeRecords, strangeMessages, strangeBench};
 ghost use Rattle.waits.specs.Numbers.{checkOf};
 use lent::RECORD;
 use lent::message_of;
@@ -35,9 +35,9 @@ pub fn room(lent: usize) -> usize
     lent
 }
 
-fn strange_kept(nodes: usize, highest: Round, r: Record) -> bool
+fn strange_record_on(nodes: usize, highest: Round, r: Record) -> bool
     requires { ⌜ nodes ≤ places ⌝ }
-    ensures { λ b. ⌜ b ≡ strangeKept nodes (highest .0) (stateOf r) ⌝ }
+    ensures { λ b. ⌜ b ≡ strangeRecordOn nodes (highest .0) (stateOf r) ⌝ }
 {
     let round = r.round;
     if strange_record(nodes, r) {
@@ -46,8 +46,8 @@ fn strange_kept(nodes: usize, highest: Round, r: Record) -> bool
     ahead(round, highest)
 }
 
-fn strange_sent(nodes: usize, highest: Round, m: Message) -> bool
-    ensures { λ b. ⌜ b ≡ strangeSent nodes (highest .0) m ⌝ }
+fn strange_message_on(nodes: usize, highest: Round, m: Message) -> bool
+    ensures { λ b. ⌜ b ≡ strangeMessageOn nodes (highest .0) m ⌝ }
 {
     let round = m.round;
     if strange_message(nodes, m) {
@@ -62,7 +62,7 @@ fn strange_records(nodes: usize, records: &[u64], highest: Round) -> bool
 {
     let mut i: usize = 0;
     while i < nodes {
-        if strange_kept(nodes, highest, record_at(records, Node(i))) {
+        if strange_record_on(nodes, highest, record_at(records, Node(i))) {
             return true;
         }
         i += 1;
@@ -76,7 +76,7 @@ fn strange_messages(nodes: usize, messages: &[u64], sent: usize, highest: Round)
 {
     let mut k: usize = 0;
     while k < sent {
-        if strange_sent(nodes, highest, message_of(messages[k])) {
+        if strange_message_on(nodes, highest, message_of(messages[k])) {
             return true;
         }
         k += 1;

@@ -14,7 +14,7 @@ ghost use Rattle.step.specs.Step.{seenIn};
 ghost use Rattle.step.specs.Views.{seenOf, receiversOf, outcomeOf};
 ghost use Rattle.lent.specs.Kept.{recordSize};
 ghost use Rattle.bench.specs.Bench.{bench, after, mostRoom};
-ghost use Rattle.bench.specs.Strange.{strangeSent, Good};
+ghost use Rattle.bench.specs.Strange.{strangeMessageOn, Good};
 ghost use Rattle.bench.specs.Steps.{join as join-of, openAt, arriveAt, deliverAt, takeStep};
 ghost use Rattle.bench.specs.Replies.{refused};
 use crate::checks::room;
@@ -131,7 +131,7 @@ fn arrive_at(
     highest: Round,
     m: Message,
 ) -> Reply
-    requires { ⌜ Good nodes (now rows) (bench (now records) (now messages) sent (highest .0)) × (strangeSent nodes (highest .0) m ≡ false) ⌝ }
+    requires { ⌜ Good nodes (now rows) (bench (now records) (now messages) sent (highest .0)) × (strangeMessageOn nodes (highest .0) m ≡ false) ⌝ }
     ensures { λ r. ⌜ after (bench (now (records .exit)) (now (messages .exit)) (r .sent) (r .highest .0)) (r .answer) ≡ arriveAt (waitsOf nodes (now (rows .entry))) (bench (now (records .entry)) (now (messages .entry)) sent (highest .0)) (letterOf m) ⌝ }
 {
     let to = m.to;

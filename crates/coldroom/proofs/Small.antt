@@ -39,7 +39,7 @@ use Rattle.deadlock.specs.Evidence.{WrittenSays, judged, judgedOf}
 use Rattle.deadlock.specs.Ring.{ReportSays}
 use Rattle.deadlock.specs.Sweeps.{knot}
 use Rattle.deadlock.proofs.Refused.{room-accepted}
-use Rattle.deadlock.proofs.Answers.{room-write, knot-evidence}
+use Rattle.deadlock.proofs.Answers.{room-write, asked-evidence}
 use Rattle.deadlock.proofs.Unique.{one-evidence}
 use Rattle.step.specs.Step.{Outcome, openRound, receive}
 use Rattle.step.proofs.Answered.{Plain, open-answer, receive-answer}
@@ -52,7 +52,7 @@ use Rattle.bench.specs.Strange.{strangeBench}
 use Rattle.bench.specs.Steps.{refuse, takeStep, stepOn}
 use Rattle.bench.specs.Runs.{refuseAll, run, runOf}
 use Rattle.bench.proofs.Codes.{step-answer}
-use Rattle.coldroom.specs.Results.{Small, SmallAnswer}
+use Rattle.coldroom.specs.Small.{Small, SmallAnswer}
 
 -- a line whose refusal is small; all lines of a list
 abbrev SmallLine : Line → Type 0
@@ -216,6 +216,6 @@ evidence-few n rows i found left x k p e = go (subst (WrittenSays n rows i found
     go (ok, (l, evidence, count, bytes)) =
         let s = knot (waitsOf n rows) i in
         let fits = room-write n rows i found s ok refl in
-        let same : l ≡ members s = one-evidence (waitsOf n rows) i l (members s) evidence (knot-evidence n rows i (room-accepted n rows i (length found) ok .0) s refl) in
+        let same : l ≡ members s = one-evidence (waitsOf n rows) i l (members s) evidence (asked-evidence n rows i (room-accepted n rows i (length found) ok .0) s refl) in
         let all : k ≡ length (listed s n) = count ∙ ap length (same ∙ sym (listed-all n s (fits .0))) in
         omega (arith, all, listed-length s n, fits .1)

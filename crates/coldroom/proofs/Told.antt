@@ -19,7 +19,8 @@ use Rattle.node.specs.Calls.{openOf, deliverOf}
 use Rattle.lent.specs.Kept.{recordAt, stateAt, putState}
 use Rattle.bench.specs.Bench.{Bench, After, after}
 use Rattle.bench.specs.Runs.{Run, run}
-use Rattle.coldroom.specs.Results.{Small, SmallAnswer, plus, answer, ran}
+use Rattle.coldroom.specs.Results.{plus, answer, ran}
+use Rattle.coldroom.specs.Small.{Small, SmallAnswer}
 use Rattle.coldroom.specs.Left.{Says, done, fourSets, Leaves, StepLeaves, RunLeaves}
 
 -- the answer is x, and an arm found it to be y

@@ -1,5 +1,5 @@
 -- The one number that each call hands back. Assumes nothing.
-use Prim.Native.Nat.{ℕ, _+_, _*_, _≤_, _<_}
+use Prim.Native.Nat.{ℕ, _+_, _*_}
 use Rattle.waits.specs.declared.numbers.Refusal.{Refusal}
 use Rattle.waits.specs.declared.numbers.Checked.{Checked}
 use Rattle.waits.specs.declared.numbers.Checked.the-variants.{Accepted, Refused}
@@ -20,10 +20,6 @@ use Rattle.step.specs.Answers.{codeOf}
 -- a refusal: its number, and 256 times its row
 abbrev pub refusal : Refusal → ℕ
 refusal r = r .number + 256 * r .row .0
-
--- number and row fit, so that both can be read from it; those of every refusal do
-abbrev pub Small : Refusal → Type 0
-Small r = (1 ≤ r .number) × (r .number < 256) × (r .row .0 < 256)
 
 -- anything else, but for a graph that is accepted: 65,536 plus what the call says
 abbrev pub plus : ℕ → ℕ
@@ -71,14 +67,6 @@ answer Stray = plus (codeOf Stray)
 answer Repeat = plus (codeOf Repeat)
 answer (Taken v) = plus (codeOf (Taken v))
 answer (Opened v) = plus (codeOf (Opened v))
-
-abbrev pub SmallAnswer : Answer → Type 0
-SmallAnswer (Answer·Refused r) = Small r
-SmallAnswer Old = Unit {0}
-SmallAnswer Stray = Unit {0}
-SmallAnswer Repeat = Unit {0}
-SmallAnswer (Taken v) = Unit {0}
-SmallAnswer (Opened v) = Unit {0}
 
 -- a list of steps
 abbrev pub ran : Checked → ℕ

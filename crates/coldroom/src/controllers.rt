@@ -4,7 +4,7 @@ ghost use lib.Seq.{sets};
 ghost use Rattle.step.specs.Views.{receiversOf, outcomeOf};
 ghost use Rattle.lent.specs.Kept.{stateAt};
 ghost use Rattle.node.specs.Calls.{openOf, deliverOf};
-ghost use Rattle.coldroom.specs.Results.{SmallAnswer};
+ghost use Rattle.coldroom.specs.Small.{SmallAnswer};
 ghost use Rattle.coldroom.specs.Left.{message, fourSets, Leaves};
 ghost use Rattle.coldroom.specs.Left.{done as done-of};
 use crate::results::answer;

@@ -57,6 +57,13 @@ module _ (w : Waits) (law : Lawful w) (i : ℕ) (h : i < w .nodes) where
   unfolding knot
   knot-iff = in-knot (has (stuck w) i) refl
 
+  -- listed, it is the evidence
+  pub knot-evidence : Evidence w i (members (knot w i))
+  knot-evidence = record {
+    ascends = members-ascending _;
+    members = λ j. (λ m. knot-iff j .0 (members-in _ j .0 m), λ t. members-in _ j .1 (knot-iff j .1 t));
+  }
+
 -- ---- all claims of a graph that isn't refused
 pub found : (n : ℕ) (rows : List ℕ) → checkOf n rows ≡ Accepted → (s : ℕ) → s ≡ stuck (waitsOf n rows)
     → (k : ℕ) → In k s ↔ ((k < n) × Deadlocked (waitsOf n rows) k)
@@ -88,14 +95,8 @@ module _ (n : ℕ) (rows : List ℕ) (i : ℕ) (ok : checkNodeOf n rows i ≡ Ac
   knot-below : (s : ℕ) → s ≡ knot (waitsOf n rows) i → Inside s (below n)
   knot-below s e = rw e (inside-in _ _ (λ j m. in-below n j .1 (reachable-node (waitsOf n rows) law here (knot-iff (waitsOf n rows) law i here j .0 m .2))))
 
-  pub knot-evidence : (s : ℕ) → s ≡ knot (waitsOf n rows) i → Evidence (waitsOf n rows) i (members s)
-  knot-evidence s e = rw e (record {
-    ascends = members-ascending _;
-    members = λ j. (
-      λ m. knot-iff (waitsOf n rows) law i here j .0 (members-in _ j .0 m),
-      λ t. members-in _ j .1 (knot-iff (waitsOf n rows) law i here j .1 t),
-    );
-  })
+  pub asked-evidence : (s : ℕ) → s ≡ knot (waitsOf n rows) i → Evidence (waitsOf n rows) i (members s)
+  asked-evidence s e = rw e (knot-evidence (waitsOf n rows) law i here)
 
 -- ---- lent room
 pub room-shaped : (n : ℕ) (rows : List ℕ) (i room : ℕ) → checkRoomOf n rows i room ≡ Accepted → Shaped n rows × (i < n)
@@ -113,7 +114,7 @@ room-written n rows i found left s k ok e w = (
   ok,
   (
     members s,
-    knot-evidence n rows i (room-accepted n rows i (length found) ok .0) s e,
+    asked-evidence n rows i (room-accepted n rows i (length found) ok .0) s e,
     w .0 ∙ size-members s,
     w .1 ∙ ap (λ (x : ℕ). members s ++ drop x found) (sym (w .0)),
   ),

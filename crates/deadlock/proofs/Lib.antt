@@ -9,4 +9,4 @@ pub mod Refused
 pub mod Answers
 pub mod Offered
 pub mod Unique
-pub mod Cycle
+pub mod Open

@@ -9,7 +9,7 @@ use borrow.Author.Tests.{not-true}
 use Rattle.lemmas.proofs.Tests.{not-both, not-true-false, same-test, and-intro, and-left, and-right}
 use Rattle.lemmas.proofs.Lists.{any-some, some-any}
 use Rattle.nodes.specs.Sets.{bit, In, Inside, has, minus, below, members, setOf}
-use Rattle.nodes.proofs.Bit.{empty-inside, in-or-out, in-with, in-below, in-minus, has-in, in-has, inside-in, inside-member, list-in, in-list, same-list}
+use Rattle.nodes.proofs.Bit.{empty-inside, in-or-out, in-below, in-minus, has-in, in-has, inside-member, with-inside, list-in, in-list, same-list}
 use Rattle.nodes.proofs.Size.{members-in}
 use Rattle.waits.specs.Waits.{Waits, Lawful}
 use Rattle.waits.specs.Deadlocked.{Reduction, Deadlocked, Reachable, outside, passes}
@@ -63,11 +63,7 @@ module _ (w : Waits) (law : Lawful w) where
   apart i l e (k ∷ r) red =
       let ih = apart i l e r (red .2) in
       let holds : w .holds k (outside w l) ≡ true = law .monotone k (setOf r) (outside w l) (red .0) ih (red .1) in
-      inside-in _ _
-      (λ j m. ⊎-elim
-      (λ (o : In j (setOf r)). inside-member _ _ j ih o)
-      (λ (q : j ≡ k). rw q (in-outside w l k .1 (red .0, λ n. not-both holds (passes-iff w i l .0 e .1 k n))))
-      (in-with (setOf r) k j .0 m))
+      with-inside (setOf r) k (outside w l) ih (in-outside w l k .1 (red .0, λ n. not-both holds (passes-iff w i l .0 e .1 k n)))
 
   -- Theorem: a node for which a list passes is deadlocked, whoever wrote the list.
   pub passes-deadlocked : (i : ℕ) (l : List ℕ) → passes w i l ≡ true → Deadlocked w i

@@ -6,9 +6,10 @@ use Prim.Native.Nat.{ℕ, _<_}
 use native.Mathlib.Nat.{le-refl}
 use native.Mathlib.Omega.{arith}
 use Rattle.nodes.specs.Sets.{bit, In, Inside, has, union, below}
-use Rattle.nodes.proofs.Bit.{bit-union, in-union, in-below, has-in, in-has, inside-in, inside-member, inside-trans}
+use Rattle.nodes.proofs.Bit.{bit-union, in-union, has-in, in-has, inside-in, inside-member, inside-trans}
 use Rattle.waits.specs.Waits.{Waits, Lawful}
 use Rattle.waits.specs.Deadlocked.{Path, Reachable}
+use Rattle.waits.proofs.In.{out-inside}
 use Rattle.waits.specs.Deadlocked.Path.{edge, then}
 use Rattle.deadlock.specs.Sweeps.{reaching, ahead}
 use Rattle.deadlock.proofs.Sweeps.{sweeps-keep, sweeps-settle}
@@ -64,13 +65,10 @@ module _ (w : Waits) where
 
 -- ---- all visits
 module _ (w : Waits) (law : Lawful w) where
-  out-below : (k : ℕ) → k < w .nodes → Inside (w .out k) (below (w .nodes))
-  out-below k h = inside-in _ _ (λ j o. in-below (w .nodes) j .1 (law .closed k j h o))
-
   reaching-stays : (k g : ℕ) → k < w .nodes → Inside g (below (w .nodes)) → Inside (reaching w k g) (below (w .nodes))
   reaching-stays k g h i =
       inside-in _ _
-      (reaching-members w (λ (j : ℕ). In j (below (w .nodes))) k g (λ j m. inside-member g _ j i m) (λ m j o. inside-member _ _ j (out-below k h) o))
+      (reaching-members w (λ (j : ℕ). In j (below (w .nodes))) k g (λ j m. inside-member g _ j i m) (λ m j o. inside-member _ _ j (out-inside w law k h) o))
 
   module _ (i : ℕ) (here : i < w .nodes) where
     ahead-sound : (j : ℕ) → In j (ahead w i) → Path w i j
@@ -90,7 +88,7 @@ module _ (w : Waits) (law : Lawful w) where
     unfolding ahead
     ahead-closed k h m =
         subst (λ (x : ℕ). Inside (w .out k) x)
-        (sweeps-settle (w .nodes) (reaching w) (reaching-grows w) reaching-stays (w .out i) (out-below i here) k h)
+        (sweeps-settle (w .nodes) (reaching w) (reaching-grows w) reaching-stays (w .out i) (out-inside w law i here) k h)
         (reaching-out w k (ahead w i) m)
 
     ahead-full : {a b : ℕ} → a < w .nodes → Inside (w .out a) (ahead w i) → Path w a b → In b (ahead w i)

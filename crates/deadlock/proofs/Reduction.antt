@@ -5,10 +5,11 @@ use mathlib.Core.Bool.{Bool, true, false, not, _&&_}
 use mathlib.Core.Logic.{_⊎_, inl, inr, ⊎-elim, _↔_}
 use mathlib.Core.List.{List, [], _∷_, List·Memᴰ}
 use Prim.Native.Nat.{ℕ, _<_}
+use native.Mathlib.Nat.{le-refl}
 use native.Mathlib.Omega.{arith}
 use Rattle.lemmas.proofs.Tests.{not-both, and-right}
 use Rattle.nodes.specs.Sets.{bit, In, Inside, has, with, below, keep, setOf}
-use Rattle.nodes.proofs.Bit.{empty-inside, bit-with-same, has-in, in-or-out, in-with, in-below, in-minus, inside-in, inside-member, same-members, keep-grows, list-in, in-list}
+use Rattle.nodes.proofs.Bit.{empty-inside, bit-with-same, has-in, in-or-out, in-below, in-minus, inside-member, inside-both, same-members, with-grows, with-inside, keep-grows, list-in, in-list}
 use Rattle.waits.specs.Waits.{Waits, Lawful}
 use Rattle.waits.specs.Deadlocked.{Reduction, Deadlocked}
 use Rattle.deadlock.specs.Sweeps.{freeing, freed, stuck}
@@ -25,9 +26,7 @@ module _ (w : Waits) where
   freeing-grows k g = keep-grows (w .holds k g) k g
 
   keep-stays : (b : Bool) (k g : ℕ) → k < w .nodes → Inside g (below (w .nodes)) → Inside (keep b k g) (below (w .nodes))
-  keep-stays true k g h i =
-      inside-in _ _
-      (λ j m. ⊎-elim (λ (o : In j g). inside-member g _ j i o) (λ (q : j ≡ k). rw q (in-below (w .nodes) k .1 h)) (in-with g k j .0 m))
+  keep-stays true k g h i = with-inside g k (below (w .nodes)) i (in-below (w .nodes) k .1 h)
   keep-stays false k g h i = i
 
   freeing-stays : (k g : ℕ) → k < w .nodes → Inside g (below (w .nodes)) → Inside (freeing w k g) (below (w .nodes))
@@ -38,15 +37,9 @@ module _ (w : Waits) where
   unfolding freeing
   freeing-yes k g e = ap (λ (b : Bool). keep b k g) (sym e)
 
-  pub freeing-no : (k g : ℕ) → w .holds k g ≡ false → g ≡ freeing w k g
-  unfolding freeing
-  freeing-no k g e = ap (λ (b : Bool). keep b k g) (sym e)
-
   -- a node that is free already needs no visit
   kept : (k g : ℕ) → In k g → with g k ≡ g
-  kept k g i =
-      same-members (with g k) g
-      (λ j. (λ m. ⊎-elim (λ (o : In j g). o) (λ (q : j ≡ k). rw q i) (in-with g k j .0 m), λ m. in-with g k j .1 (inl m)))
+  kept k g i = inside-both (with g k) g (with-inside g k g (λ j. le-refl (bit g j)) i) (with-grows g k)
 
   pub joins : (k g : ℕ) → (not (has g k) && w .holds k g) ≡ true → with g k ≡ freeing w k g
   joins k g e = freeing-yes k g (and-right (not (has g k)) _ e)
@@ -101,11 +94,7 @@ module _ (w : Waits) (law : Lawful w) where
   reduction-inside [] r = empty-inside (freed w)
   reduction-inside (k ∷ l) r =
       let ih = reduction-inside l (r .2) in
-      inside-in _ _
-      (λ j m. ⊎-elim
-      (λ (i : In j (setOf l)). inside-member (setOf l) (freed w) j ih i)
-      (λ (q : j ≡ k). rw q (freed-closed w k (r .0) (law .monotone k (setOf l) (freed w) (r .0) ih (r .1))))
-      (in-with (setOf l) k j .0 m))
+      with-inside (setOf l) k (freed w) ih (freed-closed w k (r .0) (law .monotone k (setOf l) (freed w) (r .0) ih (r .1)))
 
   -- Theorem: the computed set has exactly the nodes that some reduction frees.
   pub freed-iff : (i : ℕ) → In i (freed w) ↔ Freeable w i

@@ -23,15 +23,16 @@ use Rattle.step.specs.Step.{Seen, seenIn, openRound, receive}
 use Rattle.node.specs.Refusals.{wrongOwn, strangeKept, checkOwnOf, checkKeptOf}
 use Rattle.node.specs.Calls.{own, unlessRefused, openOf, deliverOf}
 use Rattle.node.proofs.Refused.{kept-next, open-next, deliver-next}
-use Rattle.node.proofs.Local.{own-seen}
+use Rattle.node.proofs.Whole.{own-seen}
 use Rattle.lent.specs.Kept.{stateAt}
 use Rattle.lent.specs.Coded.{messageOf}
 use Rattle.bench.specs.Bench.{Bench}
-use Rattle.bench.specs.Strange.{strangeSent, Good, strangeKept as bench·strangeKept}
+use Rattle.bench.specs.Strange.{strangeMessageOn, Good, strangeRecordOn}
 use Rattle.bench.specs.Steps.{letterAt}
 use Rattle.bench.proofs.Sound.{Sound, good-sound, sent-fine, ins-among}
 use Rattle.demands.specs.Alone.{Alone}
 use Rattle.demands.proofs.Heard.{all-stand}
+use Rattle.demands.proofs.AtOnce.{of-controller}
 
 module _ (n : ℕ) (rows : List ℕ) (b : Bench) (good : Good n rows b) (i : ℕ) (row : List ℕ) (there : i < n) (six : length row ≡ rowSize)
     (same : rowAt row 0 ≡ rowAt rows i) where
@@ -65,7 +66,7 @@ module _ (n : ℕ) (rows : List ℕ) (b : Bench) (good : Good n rows b) (i : ℕ
 
   -- 13: its record is one of a good bench, and everybody who waits on it is a node
   right-kept : strangeKept n s ins ≡ false
-  unfolding strangeKept bench·strangeKept strangeSet
+  unfolding strangeKept strangeRecordOn strangeSet
   right-kept = ap₂ _||_ (or-left-false (strangeRecord n s) _ (sound .kept i there)) (ap not (of-inside ins (below n) (ins-among n rows b sound i)))
 
   kept-accepted : checkKeptOf n i row ins s ≡ Accepted
@@ -82,8 +83,8 @@ module _ (n : ℕ) (rows : List ℕ) (b : Bench) (good : Good n rows b) (i : ℕ
       (sym (not-refused (line 10 0 (cannotOpen (s .round) round)) (open-next n i row ins s round) kept-accepted (opens-iff (s .round) round .1 (above, last))))
       ∙ ap (λ (o : Seen). openRound o round) sees
 
-  takes : (m : Message) → strangeSent n (b .highest) m ≡ false → deliverOf n i row ins s m ≡ receive (seenIn (waitsOf n rows) i) s (letterOf m)
-  unfolding deliverOf strangeSent
+  takes : (m : Message) → strangeMessageOn n (b .highest) m ≡ false → deliverOf n i row ins s m ≡ receive (seenIn (waitsOf n rows) i) s (letterOf m)
+  unfolding deliverOf strangeMessageOn
   takes m fine =
       ap (unlessRefused s (receive (own i row ins) s (letterOf m)))
       (sym (not-refused (line 13 0 (strangeMessage n m)) (deliver-next n i row ins s m) kept-accepted (or-left-false (strangeMessage n m) _ fine)))
@@ -98,5 +99,6 @@ pub alone : (n : ℕ) (rows : List ℕ) → Alone n rows
 alone n rows = record {
   opens = λ b good i row own. opens n rows b good i row (own .0) (own .1) (own .2);
   delivers = λ b good i row own. delivers n rows b good i row (own .0) (own .1) (own .2);
+  at-once = of-controller n;
   worked = λ ok messages steps. all-stand n rows messages ok steps .good;
 }

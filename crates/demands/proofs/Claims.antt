@@ -32,7 +32,7 @@ use Rattle.deadlock.specs.Sweeps.{knot}
 use Rattle.deadlock.proofs.Refused.{node-accepted}
 use Rattle.deadlock.proofs.Passing.{in-outside, passes-iff, passes-same, passes-deadlocked}
 use Rattle.deadlock.proofs.Offered.{evidence-passes}
-use Rattle.deadlock.proofs.Answers.{knot-evidence, judged-passes}
+use Rattle.deadlock.proofs.Answers.{asked-evidence, judged-passes}
 use Rattle.demands.specs.Demands.{Demand2}
 
 module _ (n : ℕ) (rows : List ℕ) (i : ℕ) where
@@ -104,7 +104,7 @@ module _ (n : ℕ) (rows : List ℕ) (i : ℕ) where
   module _ (ok : checkNodeOf n rows i ≡ Accepted) where
     pub some-list : Deadlocked (waitsOf n rows) i ↔ ((l : List ℕ) × (judgedOf n rows i l ≡ Passes))
     some-list = (
-      λ d. (members (knot (waitsOf n rows) i), evidence-passes n rows i ok d _ (knot-evidence n rows i ok (knot (waitsOf n rows) i) refl)),
+      λ d. (members (knot (waitsOf n rows) i), evidence-passes n rows i ok d _ (asked-evidence n rows i ok (knot (waitsOf n rows) i) refl)),
       λ p. passes-deadlocked (waitsOf n rows) (accepted-lawful n rows (node-accepted n rows i ok .0)) i (p .0) (judged-passed (p .0) (p .1)),
     )
 

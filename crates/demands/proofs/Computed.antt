@@ -8,7 +8,7 @@ use lib.ListN.{length}
 use Rattle.lemmas.proofs.Tests.{same-test}
 use Rattle.nodes.specs.Sets.{In, has, with, inside, members, gather}
 use Rattle.nodes.proofs.Bit.{has-in, in-has, inside-of, inside-member, gather-in}
-use Rattle.nodes.proofs.Size.{members-in, members-ascending}
+use Rattle.nodes.proofs.Size.{members-in}
 use Rattle.records.specs.Messages.{Letter}
 use Rattle.records.specs.Records.{free}
 use Rattle.waits.specs.declared.numbers.Checked.the-variants.{Accepted}
@@ -20,7 +20,7 @@ use Rattle.waits.proofs.Lawful.{accepted-lawful}
 use Rattle.deadlock.specs.Evidence.{Evidence}
 use Rattle.deadlock.specs.Sweeps.{freed, stuck, ahead, knot}
 use Rattle.deadlock.proofs.Reduction.{freed-iff, stuck-iff}
-use Rattle.deadlock.proofs.Answers.{reached, knot-iff}
+use Rattle.deadlock.proofs.Answers.{reached, knot-evidence}
 use Rattle.step.specs.declared.answers.Verdict.{Verdict}
 use Rattle.rounds.specs.Course.{after, Course, ended}
 use Rattle.rounds.specs.Verdicts.{verdicts}
@@ -81,13 +81,7 @@ module _ (n : ℕ) (rows : List ℕ) (ok : checkOf n rows ≡ Accepted) where
   module _ (s : ℕ) (node : s < n) where
     -- Law: the knot, listed, is the evidence.
     pub evidence : {l : List ℕ} → members (knot w s) ≡ l → Evidence w s l
-    evidence e = subst (Evidence w s) e (record {
-      ascends = members-ascending _;
-      members = λ j. (
-        λ m. knot-iff w lawful s node j .0 (members-in _ j .0 m),
-        λ t. members-in _ j .1 (knot-iff w lawful s node j .1 t),
-      );
-    })
+    evidence e = subst (Evidence w s) e (knot-evidence w lawful s node)
 
     -- Law: two messages for each edge that leaves a node reached or enters one freed, and the verdict says whether s is freed.
     pub full-round : {count : ℕ} {v : Verdict} → inside (gather (λ i. w .holds i 0) n) (with (ahead w s) s) ≡ true

@@ -23,6 +23,7 @@ use Rattle.demands.proofs.Shown.{round-count}
 use Rattle.demands.proofs.Lists.{as-a-list}
 use Rattle.demands.proofs.Steps.{as-numbers, opens, opens-only}
 use Rattle.demands.proofs.Rounds.{stands, rules, given, ends, evidence, room-enough}
+use Rattle.demands.proofs.AtOnce.{on-bench}
 use Rattle.demands.proofs.Arriving.{can-arrive}
 
 module _ (n : ℕ) (rows messages : List ℕ) (steps : List Step) (ok : checkOf n rows ≡ Accepted) where
@@ -60,6 +61,7 @@ module _ (n : ℕ) (rows messages : List ℕ) (steps : List Step) (ok : checkOf 
     opens = λ s round. opens n rows now s round (st .good);
     opens-only = opens-only n rows now;
     as-numbers = as-numbers;
+    at-once = on-bench n rows;
     opener = λ round v g. let r = all .said-opened round v (said round v g) in (r .0, heard-opened n rows messages steps (r .0) round (r .1));
     no-false = λ s round v o g. all .verdict-right s round (opened s round o) v (said round v g);
     one-verdict = λ round. subst (λ (x : List Verdict). length x ≤ 1) (sym (given n rows messages steps ok round)) (all .one-verdict round);

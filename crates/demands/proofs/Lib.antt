@@ -14,6 +14,7 @@ pub mod Steps
 pub mod Rounds
 pub mod Arriving
 pub mod Alone
+pub mod AtOnce
 pub mod Demands
 pub mod Computed
 pub mod Table

@@ -8,10 +8,10 @@ use Prim.Native.Nat.{ℕ, _+_}
 use native.Mathlib.Omega.{arith}
 use lib.Dec.{eqb, leb, ltb}
 use borrow.Author.Tests.{eqb-true}
-use Rattle.nodes.specs.Sets.{has, noNode}
-use Rattle.records.specs.Rounds.{behind, cannotOpen}
+use Rattle.nodes.specs.Sets.{noNode}
+use Rattle.records.specs.Rounds.{cannotOpen}
 use Rattle.records.specs.Messages.{Letter}
-use Rattle.records.specs.Records.{State, inRound, hadOf}
+use Rattle.records.specs.Records.{State}
 use Rattle.waits.specs.declared.numbers.Refusal.{Refusal}
 use Rattle.waits.specs.declared.numbers.Checked.{Checked}
 use Rattle.waits.specs.declared.numbers.Checked.the-variants.{Accepted, Refused}
@@ -20,8 +20,9 @@ use Rattle.waits.specs.Rows.{waitsOf}
 use Rattle.waits.specs.Numbers.{firstSaid}
 use Rattle.waits.proofs.Table.{refused-not-accepted}
 use Rattle.step.specs.declared.answers.Answer.{Answer}
-use Rattle.step.specs.declared.answers.Answer.the-variants.{Refused as Answer·Refused, Old, Stray, Repeat}
-use Rattle.step.specs.Step.{Seen, Outcome, seenIn, still, openRound, stray, take, arrive, receive}
+use Rattle.step.specs.declared.answers.Answer.the-variants.{Refused as Answer·Refused}
+use Rattle.step.specs.Step.{Seen, Outcome, seenIn, openRound, stray, receive}
+use Rattle.step.proofs.Answered.{Plain, open-answer, receive-answer}
 use Rattle.lent.specs.declared.steps.Step.{Step}
 use Rattle.lent.specs.Kept.{stateAt}
 use Rattle.bench.specs.Bench.{Bench, After, after, room, refusal}
@@ -34,23 +35,14 @@ use Rattle.demands.specs.Refusals.{sendsOf, wouldSend, stepLines}
 pub not-refused : {a : Answer} {r : Refusal} → accepted a ≡ true → a ≡ Answer·Refused r → ⊥
 not-refused e f = true≢false (sym e ∙ ap accepted f)
 
-pub open-accepted : (o : Seen) (round : ℕ) → accepted (openRound o round .answer) ≡ true
-unfolding openRound
-open-accepted o round = refl
+plain : Plain (λ a. accepted a ≡ true)
+plain = record { old = refl; stray = refl; repeat = refl; taken = λ v. refl; opened = λ v. refl }
 
-take-accepted : (o : Seen) (s : State) (m : Letter) → accepted (take o s m .answer) ≡ true
-unfolding take
-take-accepted o s m = refl
+pub open-accepted : (o : Seen) (round : ℕ) → accepted (openRound o round .answer) ≡ true
+open-accepted = open-answer (λ a. accepted a ≡ true) plain
 
 pub receive-accepted : (o : Seen) (r : State) (m : Letter) → accepted (receive o r m .answer) ≡ true
-unfolding receive arrive
-receive-accepted o r m = go (behind (m .round) (r .round)) (stray o (inRound (m .round) r) m) (has (hadOf (m .kind) (inRound (m .round) r)) (m .from))
-  where
-    go : (a b c : Bool) → accepted (cond a (still r Old) (cond b (still r Stray) (cond c (still r Repeat) (take o (inRound (m .round) r) m))) .answer) ≡ true
-    go true b c = refl
-    go false true c = refl
-    go false false true = refl
-    go false false false = take-accepted o (inRound (m .round) r) m
+receive-accepted = receive-answer (λ a. accepted a ≡ true) plain
 
 -- ---- what the table says of a step, and what the step leaves
 abbrev pub Says : Bench → After → Checked → Type 0

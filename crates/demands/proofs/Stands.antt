@@ -21,7 +21,7 @@ use Rattle.lent.specs.Kept.{recordSize, recordAt, stateAt}
 use Rattle.lent.specs.Coded.{messageOf, numberOf}
 use Rattle.lent.proofs.Back.{letter-back}
 use Rattle.bench.specs.Bench.{Bench, fresh}
-use Rattle.bench.specs.Strange.{strangeKept, strangeMessages, Good}
+use Rattle.bench.specs.Strange.{strangeRecordOn, strangeMessages, Good}
 use Rattle.bench.specs.Steps.{letterAt}
 use Rattle.bench.proofs.Sound.{Sound, good-sound, sound-good, shaped, sent-listed}
 use Rattle.rounds.specs.History.{Event, since, highestIn, History}
@@ -54,8 +54,8 @@ blank-at k i = λ j. record {
   done = zero-at k (i * recordSize + 6) j;
 }
 
-blank-fine : (n : ℕ) → strangeKept n 0 (blankOf 0) ≡ false
-unfolding strangeKept
+blank-fine : (n : ℕ) → strangeRecordOn n 0 (blankOf 0) ≡ false
+unfolding strangeRecordOn
 blank-fine n = ap₂ _||_ (among-record n (blankOf 0) (omega arith) (blank-among n 0)) (not-ahead-itself 0)
 
 module _ (n : ℕ) (rows messages : List ℕ) (ok : checkOf n rows ≡ Accepted) where
@@ -66,7 +66,7 @@ module _ (n : ℕ) (rows messages : List ℕ) (ok : checkOf n rows ≡ Accepted)
     each = length-replicate (n * recordSize) 0;
     within = omega arith;
     last = omega arith;
-    kept = λ i h. subst (λ (s : State). strangeKept n 0 s ≡ false) (sym (blank-at (n * recordSize) i)) (blank-fine n);
+    kept = λ i h. subst (λ (s : State). strangeRecordOn n 0 s ≡ false) (sym (blank-at (n * recordSize) i)) (blank-fine n);
     listed = refl;
   }
 

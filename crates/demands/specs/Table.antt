@@ -4,13 +4,13 @@ use mathlib.Core.Path.{_≡_}
 use mathlib.Core.Bool.{true, false}
 use mathlib.Core.Logic.{_↔_}
 use mathlib.Core.List.{List, [], _∷_, _++_, map, List·Memᴰ}
-use Prim.Native.Nat.{ℕ, _+_, _*_, _^_, _<_}
+use Prim.Native.Nat.{ℕ, _<_}
 use lib.ListN.{length, replicate}
 use Rattle.records.specs.declared.messages.Kind.the-variants.{Notify, Grant, Ack, Done}
 use Rattle.records.specs.Messages.{Letter}
 use Rattle.waits.specs.declared.numbers.Checked.the-variants.{Accepted, Refused}
 use Rattle.waits.specs.Waits.{Waits, edges}
-use Rattle.waits.specs.Deadlocked.{Deadlocked as Dead, passes}
+use Rattle.waits.specs.Deadlocked.{Deadlocked as Dead, Path, passes}
 use Rattle.waits.specs.Rows.{waitsOf}
 use Rattle.waits.specs.Numbers.{checkOf}
 use Rattle.waits.specs.Mornings.{firstRows, secondRows, fourthRows, fifthRows, sixthRows, ninthRows, tenthRows}
@@ -22,7 +22,7 @@ use Rattle.step.specs.declared.answers.Answer.the-variants.{Taken, Opened}
 use Rattle.step.specs.Step.{seenIn, openRound}
 use Rattle.step.specs.Letters.{letter}
 use Rattle.lent.specs.Coded.{numberOf}
-use Rattle.lent.specs.Steps.{answerNumber}
+use Rattle.lent.specs.Steps.{stepNumber, answerNumber}
 use Rattle.bench.specs.Bench.{fresh}
 use Rattle.bench.specs.Runs.{Run, runOf}
 use Rattle.rounds.specs.Course.{after, Course, ended}
@@ -57,17 +57,19 @@ module _ (n : ℕ) (rows : List ℕ) where
     pub sent-count : ran steps (length messages) .bench .sent ≡ length messages
     pub answer-list : ran steps (length messages) .answers ≡ answers
 
--- a step as a number, by its kind, a and b: node i opens a round; message k is delivered
+-- a step as a number: node i opens a round; message k is delivered
 abbrev pub opens : ℕ → ℕ → ℕ
-opens i round = i * 2 ^ 24 + round
+opens i round = stepNumber 0 i round
 
 abbrev pub delivers : ℕ → ℕ
-delivers k = 2 ^ 48 + k * 2 ^ 24
+delivers k = stepNumber 1 k 0
 
 pub record Table : Type 0 where
   -- 1, document 000, figure 1: 12 edges, nobody deadlocked; a full round from 1 sends 48.
   pub first : Morning 7 firstRows 12 []
   pub first-round : FullRound 7 firstRows 0 48 NotDeadlocked
+  -- It has cycles, and no deadlock: 2 waits on 3, and 3 on 2.
+  pub first-cycle : Path (waitsOf 7 firstRows) 1 1
   -- 2, document 004's example: 14 edges, deadlocked 1, 3, 4, 5, 7, 8, 9; a full round from 1 sends 34. The evidence for 1 is all seven.
   pub second : Morning 10 secondRows 14 (0 ∷ 2 ∷ 3 ∷ 4 ∷ 6 ∷ 7 ∷ 8 ∷ [])
   pub second-round : FullRound 10 secondRows 0 34 Deadlocked

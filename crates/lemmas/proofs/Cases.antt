@@ -15,9 +15,6 @@ module _ {A : Type 0} where
   pub of-true : {b : Bool} {x r : A} (y : A) → b ≡ true → cond b x y ≡ r → x ≡ r
   of-true {x = x} y e h = ap (λ (t : Bool). cond t x y) (sym e) ∙ h
 
-  pub of-false : {b : Bool} {y r : A} (x : A) → b ≡ false → cond b x y ≡ r → y ≡ r
-  of-false {y = y} x e h = ap (λ (t : Bool). cond t x y) (sym e) ∙ h
-
 -- a fact that both branches have
 pub both-branches : {A : Type 0} (P : A → Type 0) (b : Bool) {x y : A} → P x → P y → P (cond b x y)
 both-branches P true p q = p

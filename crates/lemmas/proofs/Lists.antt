@@ -1,13 +1,12 @@
 -- Lists of numbers and the numbers below one: a test of some of them, and order. Assumes nothing.
 use mathlib.Core.Path.{_≡_, refl, sym, ap, ap₂, _∙_}
 use mathlib.Core.Bool.{Bool, true, false, _||_, false≢true}
-use mathlib.Core.Logic.{_⊎_, inl, inr, ⊎-elim, _↔_}
+use mathlib.Core.Logic.{⊎-elim, _↔_}
 use mathlib.Core.List.{List, [], _∷_, _++_, map, List·Memᴰ, List·Memᴰ·append-cases, List·Memᴰ·eq-of-singleton}
 use mathlib.Core.List.List·Memᴰ.{List·Memᴰ·head as here, List·Memᴰ·tail as there}
 use Prim.Native.Nat.{ℕ, zero, suc, _+_, _≤_, _<_}
-use native.Mathlib.Nat.{not-suc-le-zero, le-of-suc-le-suc}
+use native.Mathlib.Nat.{not-suc-le-zero, le-of-suc-le-suc, eq-or-lt-of-le}
 use native.Mathlib.Numerals.{add-one}
-use native.Mathlib.Decide.{decLt}
 use native.Mathlib.Omega.{arith}
 use lib.ListN.{length, getD, drop, drop-of-length-le}
 use lib.Seq.{drop-cons}
@@ -69,12 +68,9 @@ pub none-below : (p : ℕ → Bool) (n i : ℕ) → i < n → anyBelow p n ≡ f
 none-below p zero i h e = absurd (not-suc-le-zero h)
 none-below p (suc n) i h e =
     ⊎-elim
-    (λ (l : i < n). none-below p n i l (or-left-false (anyBelow p n) (p n) e))
     (λ (q : i ≡ n). rw q (or-right-false (anyBelow p n) (p n) e))
-    (lt-or-same i n h)
-  where
-    lt-or-same : (i n : ℕ) → i < suc n → (i < n) ⊎ (i ≡ n)
-    lt-or-same i n h = elim (decLt i n) [ yes l ↦ inl l | no l ↦ inr (omega arith) ]
+    (λ (l : i < n). none-below p n i l (or-left-false (anyBelow p n) (p n) e))
+    (eq-or-lt-of-le (le-of-suc-le-suc h))
 
 pub below-next : (p : ℕ → Bool) (n : ℕ) → anyBelow p n ≡ false → p n ≡ false → anyBelow p (n + 1) ≡ false
 below-next p n e f = rw (add-one n) (ap₂ _||_ e f)

@@ -1,5 +1,5 @@
 -- Boolean tests: telling true from false, and what `&&` and `||` say of their parts. Assumes nothing.
-use mathlib.Core.Path.{_≡_, refl, sym, _∙_}
+use mathlib.Core.Path.{_≡_, refl, sym, ap, _∙_}
 use mathlib.Core.Bool.{Bool, true, false, cond, _&&_, _||_, true≢false, false≢true}
 use mathlib.Core.Logic.{_⊎_, inl, inr}
 
@@ -32,6 +32,13 @@ and-left false y e = e
 pub and-right : (x y : Bool) → (x && y) ≡ true → y ≡ true
 and-right true y e = e
 and-right false y e = absurd (false≢true e)
+
+pub and-first : {x : Bool} (y : Bool) → x ≡ false → (x && y) ≡ false
+and-first {x} y e = ap (λ (t : Bool). t && y) e
+
+pub and-later : (x : Bool) {y : Bool} → y ≡ false → (x && y) ≡ false
+and-later true e = e
+and-later false e = refl
 
 -- ---- or
 pub or-left-false : (x y : Bool) → (x || y) ≡ false → x ≡ false

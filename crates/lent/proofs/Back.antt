@@ -1,8 +1,8 @@
--- What was written is read back: a record where it was put, all others as they were, and a message's parts. Assumes nothing.
+-- What was written is read back: a record where it was put, all others as they were, a message's parts, and a step's. Assumes nothing.
 use mathlib.Core.Path.{_≡_, refl, sym, ap, _∙_}
 use mathlib.Core.Logic.{_⊎_, ⊎-elim}
 use mathlib.Core.List.{List}
-use Prim.Native.Nat.{ℕ, zero, suc, _+_, _*_, _≤_, _<_}
+use Prim.Native.Nat.{ℕ, zero, suc, _+_, _*_, _/_, _%_, _^_, _≤_, _<_}
 use native.Mathlib.Nat.{add-zero}
 use native.Mathlib.Omega.{arith}
 use lib.Dec.{lit<}
@@ -20,6 +20,7 @@ use Rattle.records.specs.Records.{State}
 use Rattle.records.proofs.Unique.{numbered}
 use Rattle.lent.specs.Kept.{recordSize, recordAt, stateAt, numbersOf, putState}
 use Rattle.lent.specs.Coded.{messageOf, numberOf}
+use Rattle.lent.specs.Steps.{stepNumber, stepOf}
 use Rattle.lent.proofs.Letters.{kind-number-le}
 
 -- ---- records
@@ -117,3 +118,13 @@ module _ (m : Letter) (f : m .from < 256) (t : m .to < 256) where
     to = message-to i;
     round = message-round i;
   }
+
+-- ---- steps
+pub step-back : (kind a b : ℕ) → a < 2 ^ 24 → b < 2 ^ 24 → stepOf (stepNumber kind a b) ≡ record { kind = kind; a = a; b = b }
+unfolding stepOf stepNumber
+step-back kind a b h l =
+    let x = kind * 2 ^ 48 + a * 2 ^ 24 + b in
+    let k : x / 2 ^ 48 ≡ kind = omega arith in
+    let c : x / 2 ^ 24 % 2 ^ 24 ≡ a = omega arith in
+    let d : x % 2 ^ 24 ≡ b = omega arith in
+    λ i. record { kind = k i; a = c i; b = d i }

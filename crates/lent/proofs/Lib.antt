@@ -2,3 +2,4 @@
 pub mod Places
 pub mod Letters
 pub mod Back
+pub mod Open

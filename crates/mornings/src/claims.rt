@@ -2,16 +2,16 @@
 use crate::lines::bytes;
 use crate::lines::checked;
 use crate::rounds::round;
+use crate::say::members;
+use crate::say::number;
+use crate::say::refusal;
+use crate::say::text;
 use deadlock::Claim;
 use deadlock::Found;
 use deadlock::Report;
 use deadlock::Written;
 use nodes::Node;
 use nodes::PLACES;
-use say::members;
-use say::number;
-use say::refusal;
-use say::text;
 
 fn claim(nodes: usize, rows: &[u64], k: usize) {
     let said = deadlock::deadlocked(nodes, rows, Node(k));

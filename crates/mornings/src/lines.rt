@@ -1,7 +1,7 @@
 // Parts of a line.
-use say::number;
-use say::refusal;
-use say::text;
+use crate::say::number;
+use crate::say::refusal;
+use crate::say::text;
 use waits::Checked;
 
 // What node a line is about.

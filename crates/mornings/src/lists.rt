@@ -2,10 +2,10 @@
 use crate::lines::about;
 use crate::lines::bytes;
 use crate::mornings::second;
+use crate::say::refusal;
+use crate::say::text;
 use deadlock::Judged;
 use nodes::Node;
-use say::refusal;
-use say::text;
 
 // A line on a list that is offered for a node.
 pub fn judged(nodes: usize, rows: &[u64], node: usize, list: &[u8]) {

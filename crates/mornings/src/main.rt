@@ -8,6 +8,7 @@ mod questions;
 mod refusals;
 mod rounds;
 mod runs;
+mod say;
 
 fn main() {
     say::text(b"The mornings\n");

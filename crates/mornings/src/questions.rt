@@ -5,11 +5,11 @@ use crate::lines::about;
 use crate::lines::bytes;
 use crate::lists::judged;
 use crate::mornings::second;
+use crate::say::number;
+use crate::say::refusal;
+use crate::say::text;
 use deadlock::Written;
 use nodes::Node;
-use say::number;
-use say::refusal;
-use say::text;
 
 // A line on evidence that is written, and on the lent room afterwards.
 fn written(nodes: usize, rows: &[u64], node: usize, room: &mut [u8]) {

@@ -5,8 +5,8 @@ use crate::graphs::put;
 use crate::graphs::with_row;
 use crate::lines::answer;
 use crate::lines::checked;
-use say::number;
-use say::text;
+use crate::say::number;
+use crate::say::text;
 
 // The largest number that can be handed in, and the last place of a set.
 const ALL: u64 = 18_446_744_073_709_551_615;

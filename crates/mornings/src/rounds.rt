@@ -1,12 +1,12 @@
 // A full round: opened at a node of a fresh bench, every message delivered in its order.
+use crate::say::number;
+use crate::say::refusal;
+use crate::say::text;
 use bench::Reply;
 use lent::RECORDS;
 use lent::Step;
 use lent::record_numbers;
 use nodes::Round;
-use say::number;
-use say::refusal;
-use say::text;
 use step::Answer;
 use step::Verdict;
 

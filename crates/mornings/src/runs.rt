@@ -1,5 +1,5 @@
 // The sixth, seventh, eighth and eleventh mornings as scripts, each with the text that answers it.
-use say::text;
+use crate::say::text;
 use transcript::transcript;
 
 fn run(label: &[u8], script: &[u8]) {

@@ -1,4 +1,3 @@
 -- The laws of one controller.
 pub mod Refused
 pub mod Whole
-pub mod Local

@@ -3,7 +3,7 @@ use mathlib.Core.Path.{_≡_, refl, ap, _∙_}
 use mathlib.Core.Logic.{_↔_}
 use mathlib.Core.Bool.{false}
 use mathlib.Core.List.{List}
-use mathlib.Core.List.List·Memᴰ.{List·Memᴰ·head as here}
+use mathlib.Core.List.List·Memᴰ.{List·Memᴰ·head as here, List·Memᴰ·tail as there}
 use Prim.Native.Nat.{ℕ, _<_, _≤_}
 use native.Mathlib.Omega.{arith}
 use lib.Dec.{leb}
@@ -24,7 +24,7 @@ use Rattle.waits.specs.declared.numbers.Checked.the-variants.{Accepted, Refused
 use Rattle.waits.specs.Rows.{rowSize, rowAt}
 use Rattle.waits.specs.Numbers.{line, strangeCount, checkRowOf, Gives}
 use Rattle.waits.proofs.Cases.{count-fits}
-use Rattle.waits.proofs.Table.{accepted-silent, refused-iff}
+use Rattle.waits.proofs.Table.{accepted-silent, refused-iff, Fine, fine}
 use Rattle.waits.proofs.Next.{Next, next, refused-before, next-accepted}
 use Rattle.node.specs.Refusals.{wrongOwn, strangeKept, ownLines, keptLines, openLines, deliverLines, checkOwnOf, checkKeptOf, checkOpenOf, checkDeliverOf}
 
@@ -80,18 +80,15 @@ module _ (n me : ℕ) (row : List ℕ) where
         let q = own-accepted (p .0) in
         (q .0, q .1, record-fits n s (q .0) (or-left-false (strangeRecord n s) _ (p .1)))
 
-    pub open-own : (round : ℕ) → checkOpenOf n me row ins s round ≡ Accepted → checkOwnOf n me row ≡ Accepted
+    pub open-own : (round : ℕ) → checkOpenOf n me row ins s round ≡ Accepted → Fine n me (rowAt row 0)
+    unfolding checkOwnOf
     open-own round e =
         let p = next-accepted (line 10 0 (cannotOpen (s .round) round)) (open-next round) e in
-        next-accepted (line 13 0 (strangeKept n s ins)) kept-next (p .0) .0
-
-    pub deliver-own : (m : Message) → checkDeliverOf n me row ins s m ≡ Accepted → checkOwnOf n me row ≡ Accepted
-    deliver-own m e =
-        let p = next-accepted (line 13 0 (strangeMessage n m)) (deliver-next m) e in
-        next-accepted (line 13 0 (strangeKept n s ins)) kept-next (p .0) .0
+        let q = next-accepted (line 13 0 (strangeKept n s ins)) kept-next (p .0) in
+        fine n me (rowAt row 0) (λ l i. accepted-silent (ownLines n me row) (q .0) l (there (there i)))
 
     pub open-accepted : (round : ℕ) → checkOpenOf n me row ins s round ≡ Accepted → length row ≡ rowSize
-    open-accepted round e = own-accepted (open-own round e) .1
+    open-accepted round e = kept-accepted (next-accepted (line 10 0 (cannotOpen (s .round) round)) (open-next round) e .0) .1
 
     pub deliver-accepted : (m : Message) → checkDeliverOf n me row ins s m ≡ Accepted → (length row ≡ rowSize) × (m .from .0 < places) × Fitting s
     unfolding strangeMessage noNode

@@ -6,14 +6,15 @@ use Rattle.records.specs.Messages.{letterOf}
 use Rattle.records.specs.Records.{State}
 use Rattle.waits.specs.declared.numbers.Checked.{Checked}
 use Rattle.waits.specs.declared.numbers.Checked.the-variants.{Accepted, Refused}
-use Rattle.waits.specs.Rows.{rowAt, outOf, holdsOf}
+use Rattle.waits.specs.Rows.{rowAt}
 use Rattle.step.specs.declared.answers.Answer.the-variants.{Refused as Answer·Refused}
 use Rattle.step.specs.Step.{Seen, Outcome, still, openRound, receive}
+use Rattle.step.specs.Views.{seenBy}
 use Rattle.node.specs.Refusals.{checkOpenOf, checkDeliverOf}
 
 -- what a node sees that is told its own number, its six row numbers and its IN
 abbrev pub own : ℕ → List ℕ → ℕ → Seen
-own me row ins = record { me = me; out = outOf (rowAt row 0); holds = holdsOf (rowAt row 0); ins = ins }
+own me row ins = seenBy me (rowAt row 0) ins
 
 -- a refusal hands back the record as it was and sends nothing
 abbrev pub unlessRefused : State → Outcome → Checked → Outcome

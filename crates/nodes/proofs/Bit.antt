@@ -5,16 +5,16 @@ use mathlib.Core.Logic.{_⊎_, inl, inr, ⊎-elim, _↔_}
 use mathlib.Core.List.{List, [], _∷_, _++_, List·Memᴰ, List·Memᴰ·append-cases, List·Memᴰ·eq-of-singleton, Memᴰ·append-left, Memᴰ·append-right}
 use mathlib.Core.List.List·Memᴰ.{List·Memᴰ·head as here, List·Memᴰ·tail as there}
 use Prim.Native.Nat.{ℕ, zero, suc, _+_, _-_, _*_, _/_, _%_, _^_, _≤_, _<_, zero-le, suc-le-suc, min, max}
-use native.Mathlib.Nat.{mod-lt, zero-lt-suc, div-one, le-of-suc-le-suc, not-suc-le-zero, div-add-mod', pow-suc, one-mul, div-eq-of-lt, le-dest, lt-of-lt-of-le, lt-of-le-of-lt, lt-suc-self, eq-or-lt-of-le, le-refl, le-trans, mul-mod-left}
+use native.Mathlib.Nat.{mod-lt, zero-lt-suc, div-one, le-of-suc-le-suc, not-suc-le-zero, div-add-mod', pow-suc, one-mul, div-eq-of-lt, le-dest, lt-of-lt-of-le, lt-suc-self, eq-or-lt-of-le, le-refl, le-trans, mul-mod-left}
 use native.Mathlib.Omega.{arith}
 use native.Mathlib.Numerals.{add-one, one-add}
 use native.Mathlib.Decide.{decLt, ℕ-discrete}
 use lib.Dec.{eqb, lit<}
 use lib.Arith.{lt-one, digits-mod}
 use lib.Pow.{pow-pos, pow-add, shr-shr, pow-lt, shl-shr, shr-lt, pow-mono, field, mod-mod-pow, ones-lt, shl-exact, high, low}
-use lib.Bits.{bitAnd, bitOr, bitXor, differ, and-shr, or-shr, xor-shr, and-step, or-step, xor-step, or-lt, and-le-l}
+use lib.Bits.{bitAnd, bitOr, bitXor, differ, and-shr, or-shr, xor-shr, and-step, or-step, xor-step, or-lt}
 use borrow.Author.Tests.{eqb-true, eq-eqb}
-use Rattle.lemmas.proofs.Tests.{not-true-false, not-both}
+use Rattle.lemmas.proofs.Tests.{not-true-false, not-both, same-test}
 use Rattle.nodes.specs.Sets.{bit, In, has, union, meet, minus, single, with, below, inside, Inside, keep, gather, setOf}
 
 -- ---- a digit
@@ -156,10 +156,6 @@ in-minus a b k = (
   λ i. let l = bit-le a k in let u = bit-minus a b k in (omega arith, λ j. omega arith),
   λ p. ⊎-elim (λ (e : bit b k ≡ 1). absurd (p .1 e)) (λ (z : bit b k ≡ 0). omega (arith, bit-minus a b k)) (in-or-out b k),
 )
-
-pub meet-lt : (w a b : ℕ) → a < 2 ^ w → meet a b < 2 ^ w
-unfolding meet
-meet-lt w a b h = lt-of-le-of-lt (and-le-l a b) h
 
 pub union-lt : (w a b : ℕ) → a < 2 ^ w → b < 2 ^ w → union a b < 2 ^ w
 unfolding union
@@ -325,6 +321,10 @@ minus-none a b e k = omega (arith, bit-minus a b k, ap (λ (x : ℕ). bit x k) e
 
 pub inside-empty : (a : ℕ) → Inside a 0 → a ≡ 0
 inside-empty a h = empty-same a (λ k. omega (arith, h k, bit-empty k))
+
+-- the same as a test
+pub inside-none : (a : ℕ) → inside a 0 ≡ eqb a 0
+inside-none a = same-test _ _ (λ e. eq-eqb a 0 (inside-empty a (inside-of a 0 e))) (λ e. of-inside a 0 (rw (eqb-true a 0 e) (empty-inside 0)))
 
 pub not-inside : (a b k : ℕ) → bit b k < bit a k → inside a b ≡ false
 not-inside a b k h = not-true-false _ (λ e. let q = inside-of a b e k in omega arith)

@@ -4,3 +4,4 @@ pub mod Size
 pub mod Walk
 pub mod Words
 pub mod First
+pub mod Open

@@ -5,10 +5,10 @@ use mathlib.Core.Logic.{⊎-elim, _↔_}
 use mathlib.Core.List.{List, [], _++_, append-assoc, append-nil, List·Memᴰ, List·Memᴰ·append-cases, List·Memᴰ·eq-of-singleton, Memᴰ·append-left, Memᴰ·append-right}
 use mathlib.Core.List.List·Memᴰ.{List·Memᴰ·head as here}
 use Prim.Native.Nat.{ℕ, zero, suc, _+_, _*_, _/_, _%_, _^_, _≤_, _<_, min, max}
-use native.Mathlib.Nat.{le-refl, not-suc-le-zero, add-zero, add-suc, suc-add, mul-one, one-mul, mod-lt, eq-or-lt-of-le, le-of-suc-le-suc, mod-eq-of-lt, add-comm, zero-add}
+use native.Mathlib.Nat.{le-refl, not-suc-le-zero, add-zero, add-suc, suc-add, mul-one, mod-lt, eq-or-lt-of-le, le-of-suc-le-suc, mod-eq-of-lt, add-comm, zero-add}
 use native.Mathlib.Omega.{arith}
 use native.Mathlib.Numerals.{add-one}
-use native.Mathlib.Decide.{le-ind, ℕ-discrete}
+use native.Mathlib.Decide.{le-ind}
 use lib.Dec.{eqb}
 use lib.Arith.{half-le, bin-ind, lt-one, digits-mod, digits-div}
 use lib.Pow.{pow-pos, shr-lt, mod-pow-add}
@@ -17,8 +17,8 @@ use lib.ListN.{length, length-append}
 use Rattle.lemmas.specs.Lists.{Ascending, Once}
 use Rattle.lemmas.proofs.Lists.{ascending-snoc}
 use Rattle.lemmas.proofs.Once.{ascending-once}
-use Rattle.nodes.specs.Sets.{bit, In, has, union, meet, minus, with, single, Inside, only, membersFrom, members, size}
-use Rattle.nodes.proofs.Bit.{bit-zero, bit-suc, bit-le, in-lt, has-bit, has-in, in-has, pow-gt, with-union, bit-union, bit-meet, bit-minus, bit-single-other, empty-same, same, inside-both, minus-none}
+use Rattle.nodes.specs.Sets.{bit, In, has, union, meet, minus, Inside, only, membersFrom, members, size}
+use Rattle.nodes.proofs.Bit.{bit-zero, bit-suc, bit-le, in-lt, has-bit, has-in, in-has, pow-gt, bit-union, bit-meet, bit-minus, empty-same, same, inside-both, minus-none}
 
 -- ---- the members from k on, however large the bound of the recursion
 more : (f k s : ℕ) → s ≤ f → membersFrom (suc f) k s ≡ membersFrom f k s
@@ -214,25 +214,6 @@ size-union-meet = bin-ind (λ (a : ℕ). (b : ℕ) → size (union a b) + size (
 
 pub size-disjoint : (a b : ℕ) → meet a b ≡ 0 → size (union a b) ≡ size a + size b
 size-disjoint a b e = omega (arith, size-union-meet a b, ap size e, size-empty)
-
--- ---- one member
-only-self : (s k : ℕ) → bit s k ≡ 0 → meet s (single k) ≡ 0
-only-self s k z =
-    empty-same (meet s (single k))
-    (λ j. elim (ℕ-discrete j k) [
-      | yes e ↦ rw e (omega (arith, bit-meet s (single k) k))
-      | no e ↦ omega (arith, bit-meet s (single k) j, bit-single-other k j e)
-    ])
-
-pub size-single : (k : ℕ) → size (single k) ≡ 1
-unfolding single
-size-single k =
-    size-members (2 ^ k)
-    ∙ ap length (members-from (2 ^ k) ∙ ap (from 0) (sym (add-zero (1 * 2 ^ k) ∙ one-mul (2 ^ k))) ∙ from-cat k 0 1 0 (pow-pos k))
-    ∙ length-append (from 0 0) (from (0 + k) 1) ∙ ap₂ (λ (x y : ℕ). x + y) (ap length (from-none 0)) (ap length (from-digit 1 (0 + k) (le-refl 1)))
-
-pub size-with : (s k : ℕ) → bit s k ≡ 0 → size (with s k) ≡ size s + 1
-size-with s k z = ap size (with-union s k) ∙ size-disjoint s (single k) (only-self s k z) ∙ ap (λ (x : ℕ). size s + x) (size-single k)
 
 -- ---- a set is empty exactly if its size is 0
 pub size-zero : (s : ℕ) → size s ≡ 0 → s ≡ 0

@@ -3,10 +3,8 @@ use mathlib.Core.Path.{_≡_}
 use mathlib.Core.Bool.{false}
 use Prim.Native.Nat.{ℕ, _≤_}
 use native.Mathlib.Omega.{arith}
-use lib.Dec.{ltb}
 use borrow.Author.Tests.{leb-false}
 use Rattle.lemmas.proofs.Cases.{both-branches}
-use Rattle.lemmas.proofs.Tests.{or-left-false, or-right-false}
 use Rattle.nodes.specs.Sets.{noNode}
 use Rattle.nodes.specs.Words.{places}
 use Rattle.records.specs.declared.causes.Why.{Why}
@@ -14,8 +12,9 @@ use Rattle.records.specs.declared.causes.Why.the-variants.{Not, Itself, 
 use Rattle.records.specs.declared.messages.Kind.{Kind}
 use Rattle.records.specs.declared.messages.Kind.the-variants.{Notify, Grant, Ack, Done}
 use Rattle.records.specs.Causes.{Fits, strangeWhy}
-use Rattle.records.specs.Rounds.{lastRound, ahead}
+use Rattle.records.specs.Rounds.{ahead}
 use Rattle.records.specs.Records.{State, Fitting, inRound, markOf, strangeRecord}
+use Rattle.records.proofs.Among.{record-among}
 
 pub mark-fits : (kind : Kind) (from : ℕ) (s : State) → Fitting s → Fitting (markOf kind from s)
 mark-fits Notify from s fit = fit
@@ -38,8 +37,4 @@ why-fits n Itself h e = tt
 why-fits n (By k) h e = let p = leb-false n (k .0) e in omega arith
 
 pub record-fits : (n : ℕ) (s : State) → n ≤ places → strangeRecord n s ≡ false → Fitting s
-unfolding strangeRecord
-record-fits n s h e =
-    let f = or-right-false (ltb lastRound (s .round)) _ e in
-    let g = or-right-false (strangeWhy n (s .call)) _ f in
-    (why-fits n (s .call) h (or-left-false _ _ f), why-fits n (s .freed) h (or-left-false _ _ g))
+record-fits n s h e = let w = record-among n s e .1 in (why-fits n (s .call) h (w .call), why-fits n (s .freed) h (w .freed))

@@ -1,7 +1,8 @@
 -- The laws of records and messages.
 pub mod Views
+pub mod Among
 pub mod Fits
 pub mod Unique
 pub mod Higher
-pub mod Among
 pub mod Marks
+pub mod Open

@@ -1,6 +1,5 @@
 // A controller's record of its round.
 ghost use mathlib.Core.Path.{_≡_};
-ghost use mathlib.Core.Bool.{not};
 ghost use Prim.Native.Nat.{_<_, _≤_};
 ghost use Rattle.nodes.specs.Words.{num, places};
 ghost use Rattle.nodes.specs.Sets.{with};

@@ -1,4 +1,5 @@
 -- That a round is right, and that many are: the theorems stand in OneRound and ManyRounds.
+pub mod Open
 pub mod Members
 pub mod Put
 pub mod Orders

@@ -6,23 +6,20 @@ use mathlib.Core.List.{List, [], _∷_, _++_, List·Memᴰ}
 use mathlib.Core.List.List·Memᴰ.{List·Memᴰ·head as here, List·Memᴰ·tail as there}
 use Prim.Native.Nat.{ℕ, _<_}
 use lib.Dec.{eqb, lit<}
-use Rattle.nodes.specs.Sets.{bit, has, union, meet, minus, single, with, inside, membersFrom, members, size, gather}
-use Rattle.nodes.specs.Words.{num}
 use Rattle.records.specs.declared.messages.Kind.the-variants.{Notify, Grant, Ack, Done}
 use Rattle.records.specs.Messages.{Letter, kindNumber}
-use Rattle.records.specs.Rounds.{compareOf, behind, ahead, noRound, cannotOpen}
+use Rattle.records.specs.Rounds.{behind, cannotOpen}
 use Rattle.records.specs.Records.{blankOf, inRound}
-use Rattle.waits.specs.Waits.{inOf}
-use Rattle.waits.specs.Rows.{rowAt, laterOf, outOf, liesIn, holdsOf}
 use Rattle.step.specs.declared.answers.Verdict.{Verdict}
 use Rattle.step.specs.declared.answers.Verdict.the-variants.{NotDeadlocked}
 use Rattle.step.specs.declared.answers.Answer.the-variants.{Old}
-use Rattle.step.specs.Step.{Outcome, seenIn, still, acked, complete, becomeFree, beCalled, onNotify, onGrant, owed, verdictOf, settle, openRound, stray, take, arrive, receive}
-use Rattle.step.specs.Letters.{letter, lettersOf}
-use Rattle.rounds.specs.Course.{Stage, put, joined, unheard, reply}
+use Rattle.step.specs.Step.{Outcome, seenIn, still, openRound, arrive}
+use Rattle.step.specs.Letters.{letter}
+use Rattle.rounds.specs.Course.{Stage, joined, unheard, reply}
 use Rattle.rounds.specs.Verdicts.{verdictIn}
 use Rattle.rounds.specs.History.{Event, nodeOf, roundOf, outcome, since, highestIn, History, ofRound, verdictsOf}
 use Rattle.rounds.specs.History.Event.{opens, arrives}
+use Rattle.rounds.proofs.Open.{open-rounds}
 use Rattle.rounds.proofs.Mornings.{at, sixth}
 
 -- ---- by the rules
@@ -37,7 +34,7 @@ pub late-notify : Happens
     ∷ arrives (letter Notify 0 1 2) ∷ opens 0 2 ∷ opens 0 1 ∷ [])
     (letter Notify 0 1 2 ∷ letter Grant 1 0 2 ∷ letter Ack 0 1 2 ∷ letter Done 1 0 2 ∷ [])
     (NotDeadlocked ∷ [])
-unfolding since verdictsOf put openRound receive arrive take stray settle verdictOf owed onGrant onNotify beCalled becomeFree acked complete lettersOf inRound behind ahead compareOf noRound cannotOpen rowAt laterOf outOf liesIn holdsOf inOf num bit has union meet minus single with inside membersFrom members size gather
+unfolding open-rounds
 late-notify = ((at 4 refl, (at 3 refl, (at 0 refl, (at 2 refl, (at 1 refl, (lit< tt, refl, (lit< tt, refl, tt))))))), refl, refl)
 
 -- the GRANT of round 1 comes late
@@ -46,7 +43,7 @@ pub late-grant : Happens
     ∷ arrives (letter Grant 1 0 1) ∷ opens 0 2 ∷ arrives (letter Notify 0 1 1) ∷ opens 0 1 ∷ [])
     (letter Notify 0 1 2 ∷ letter Grant 1 0 2 ∷ letter Ack 0 1 2 ∷ letter Done 1 0 2 ∷ [])
     (NotDeadlocked ∷ [])
-unfolding since verdictsOf put openRound receive arrive take stray settle verdictOf owed onGrant onNotify beCalled becomeFree acked complete lettersOf inRound behind ahead compareOf noRound cannotOpen rowAt laterOf outOf liesIn holdsOf inOf num bit has union meet minus single with inside membersFrom members size gather
+unfolding open-rounds
 late-grant = ((at 5 refl, (at 4 refl, (at 3 refl, (at 2 refl, (at 1 refl, (lit< tt, refl, (at 0 refl, (lit< tt, refl, tt)))))))), refl, refl)
 
 -- ---- by another node
@@ -93,7 +90,7 @@ blanking c (arrives m) = cond (behind (m .round) (c .records (m .to) .round)) (s
 pub blanking-silent : Silent blanking
     (arrives (letter Ack 0 1 2) ∷ arrives (letter Notify 0 1 1) ∷ arrives (letter Grant 1 0 2) ∷ arrives (letter Notify 0 1 2) ∷ opens 0 2 ∷ opens 0 1 ∷ [])
     (letter Notify 0 1 2 ∷ letter Grant 1 0 2 ∷ letter Ack 0 1 2 ∷ [])
-unfolding put openRound receive arrive take stray settle verdictOf owed onGrant onNotify beCalled becomeFree acked complete lettersOf inRound behind ahead compareOf noRound cannotOpen rowAt laterOf outOf liesIn holdsOf inOf num bit has union meet minus single with inside membersFrom members size gather
+unfolding open-rounds
 blanking-silent = (
   (at 3 refl, (at 0 refl, (at 2 refl, (at 1 refl, (lit< tt, refl, (lit< tt, refl, tt)))))),
   refl,
@@ -115,7 +112,7 @@ pub letting-silent : Silent letting
     (arrives (letter Grant 1 0 2) ∷ arrives (letter Notify 0 1 2) ∷ arrives (letter Ack 0 1 2) ∷ arrives (letter Grant 1 0 1) ∷ opens 0 2
     ∷ arrives (letter Notify 0 1 1) ∷ opens 0 1 ∷ [])
     (letter Notify 0 1 2 ∷ letter Ack 0 1 2 ∷ letter Grant 1 0 2 ∷ [])
-unfolding put openRound receive arrive take stray settle verdictOf owed onGrant onNotify beCalled becomeFree acked complete lettersOf inRound behind ahead compareOf noRound cannotOpen rowAt laterOf outOf liesIn holdsOf inOf num bit has union meet minus single with inside membersFrom members size gather
+unfolding open-rounds
 letting-silent = (
   (at 4 refl, (at 2 refl, (at 3 refl, (at 1 refl, (lit< tt, refl, (at 0 refl, (lit< tt, refl, tt))))))),
   refl,

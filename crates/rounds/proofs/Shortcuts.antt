@@ -2,19 +2,13 @@
 -- Assumes nothing.
 use mathlib.Core.Path.{refl}
 use mathlib.Core.List.{[], _∷_}
-use Rattle.nodes.specs.Sets.{bit, has, union, meet, minus, single, with, inside, membersFrom, members, size, gather}
-use Rattle.nodes.specs.Words.{num}
 use Rattle.records.specs.declared.messages.Kind.the-variants.{Notify, Grant, Ack, Done}
-use Rattle.records.specs.Rounds.{compareOf, behind, ahead}
-use Rattle.records.specs.Records.{inRound}
-use Rattle.waits.specs.Waits.{Waits, inOf}
-use Rattle.waits.specs.Rows.{rowAt, laterOf, outOf, liesIn, holdsOf, waitsOf}
+use Rattle.waits.specs.Waits.{Waits}
+use Rattle.waits.specs.Rows.{waitsOf}
 use Rattle.waits.specs.Mornings.{ninthRows}
 use Rattle.step.specs.declared.answers.Verdict.the-variants.{Deadlocked, NotDeadlocked}
-use Rattle.step.specs.Step.{acked, complete, becomeFree, beCalled, onNotify, onGrant, owed, verdictOf, settle, openRound, stray, take, arrive, receive}
-use Rattle.step.specs.Letters.{letter, lettersOf}
-use Rattle.rounds.specs.Course.{put, after}
-use Rattle.rounds.specs.Verdicts.{verdicts}
+use Rattle.step.specs.Letters.{letter}
+use Rattle.rounds.proofs.Open.{open-rounds}
 use Rattle.rounds.proofs.Mornings.{Comes, at, sixth}
 
 -- morning 9: 0 needs two of 1, 2 and 3; 1 is active, and 2 and 3 wait on 0
@@ -30,7 +24,7 @@ pub counted : Comes ninth
     (letter Notify 0 1 1 ∷ letter Notify 0 2 1 ∷ letter Notify 0 3 1 ∷ letter Grant 1 0 1 ∷ letter Notify 2 0 1 ∷ letter Notify 3 0 1
     ∷ letter Ack 0 1 1 ∷ letter Done 0 2 1 ∷ letter Done 0 3 1 ∷ letter Done 1 0 1 ∷ letter Done 2 0 1 ∷ letter Done 3 0 1 ∷ [])
     (Deadlocked ∷ [])
-unfolding verdicts after put openRound receive arrive take stray settle verdictOf owed onGrant onNotify beCalled becomeFree acked complete lettersOf inRound behind ahead compareOf rowAt laterOf outOf liesIn holdsOf inOf num bit has union meet minus single with inside membersFrom members size gather
+unfolding open-rounds
 counted = ((at 11 refl, (at 10 refl, (at 9 refl, (at 8 refl, (at 7 refl, (at 6 refl, (at 5 refl, (at 4 refl, (at 3 refl, (at 3 refl, (at 2 refl, (at 1 refl, (at 0 refl, tt))))))))))))), refl, refl)
 
 -- DONE for a repeated NOTIFY from the caller: it would be sent at once, before the ACK. Delivered before the GRANT, it would end the
@@ -39,7 +33,7 @@ pub again : Comes sixth
     (letter Done 1 0 1 ∷ letter Ack 0 1 1 ∷ letter Grant 1 0 1 ∷ letter Notify 0 1 1 ∷ letter Notify 0 1 1 ∷ [])
     (letter Notify 0 1 1 ∷ letter Grant 1 0 1 ∷ letter Ack 0 1 1 ∷ letter Done 1 0 1 ∷ [])
     (NotDeadlocked ∷ [])
-unfolding verdicts after put openRound receive arrive take stray settle verdictOf owed onGrant onNotify beCalled becomeFree acked complete lettersOf inRound behind ahead compareOf rowAt laterOf outOf liesIn holdsOf inOf num bit has union meet minus single with inside membersFrom members size gather
+unfolding open-rounds
 again = ((at 3 refl, (at 2 refl, (at 1 refl, (at 0 refl, (at 0 refl, tt))))), refl, refl)
 
 -- 0 needs both 1 and 2, 1 waits on 2, and 2 is active: GRANT may come to 1 before NOTIFY does
@@ -56,7 +50,7 @@ pub freed-twice : Comes early
     (letter Notify 0 1 1 ∷ letter Grant 2 1 1 ∷ letter Notify 0 2 1 ∷ [])
     (letter Notify 0 1 1 ∷ letter Notify 0 2 1 ∷ letter Grant 2 0 1 ∷ letter Grant 2 1 1 ∷ letter Grant 1 0 1 ∷ letter Notify 1 2 1 ∷ [])
     []
-unfolding verdicts after put openRound receive arrive take stray settle verdictOf owed onGrant onNotify beCalled becomeFree acked complete lettersOf inRound behind ahead compareOf rowAt laterOf outOf liesIn holdsOf inOf num bit has union meet minus single with inside membersFrom members size gather
+unfolding open-rounds
 freed-twice = ((at 0 refl, (at 3 refl, (at 1 refl, tt))), refl, refl)
 
 -- Sending GRANT only to nodes already called: 2 would send none to 1, whose NOTIFY is late, and neither 1 nor 0 would ever be free.
@@ -66,5 +60,5 @@ pub only-to-called : Comes early
     (letter Notify 0 1 1 ∷ letter Notify 0 2 1 ∷ letter Grant 2 0 1 ∷ letter Grant 2 1 1 ∷ letter Ack 0 2 1 ∷ letter Grant 1 0 1
     ∷ letter Ack 0 1 1 ∷ letter Ack 1 2 1 ∷ letter Done 2 0 1 ∷ letter Notify 1 2 1 ∷ letter Done 2 1 1 ∷ letter Done 1 0 1 ∷ [])
     (NotDeadlocked ∷ [])
-unfolding verdicts after put openRound receive arrive take stray settle verdictOf owed onGrant onNotify beCalled becomeFree acked complete lettersOf inRound behind ahead compareOf rowAt laterOf outOf liesIn holdsOf inOf num bit has union meet minus single with inside membersFrom members size gather
+unfolding open-rounds
 only-to-called = ((at 11 refl, (at 10 refl, (at 9 refl, (at 0 refl, (at 8 refl, (at 7 refl, (at 6 refl, (at 5 refl, (at 4 refl, (at 3 refl, (at 2 refl, (at 1 refl, tt)))))))))))), refl, refl)

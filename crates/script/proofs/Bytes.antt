@@ -5,10 +5,9 @@ use Prim.Native.Nat.{ℕ, _+_, _-_, _*_, _^_, _≤_, _<_}
 use lib.Dec.{leb}
 use borrow.Author.Tests.{lt-ltb, le-ltb, le-leb, lt-leb}
 use Rattle.lemmas.proofs.Cases.{at-true, at-false}
-use Rattle.lemmas.proofs.Tests.{and-intro}
+use Rattle.lemmas.proofs.Tests.{and-intro, and-first, and-later}
 use Rattle.script.specs.declared.numbers.Place.{Place}
 use Rattle.script.specs.declared.numbers.Next.the-variants.{Number, Strange}
-use Rattle.script.proofs.Tests.{and-first, and-later}
 use Rattle.script.specs.Numbers.{digit, soFar, grown}
 
 pub digit-low : (b : ℕ) → b < 48 → digit b ≡ false

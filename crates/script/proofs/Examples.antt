@@ -5,7 +5,8 @@ use mathlib.Core.List.{[], _∷_}
 use Prim.Native.Nat.{_+_, _*_, _^_}
 use Rattle.text.specs.Words.{word}
 use Rattle.script.specs.Numbers.{blank, digit, grown, said, numbersFrom, numbersOf}
-use Rattle.script.specs.Steps.{goodStep, stepNumber, goodSteps, stepsOf}
+use Rattle.lent.specs.Steps.{stepNumber}
+use Rattle.script.specs.Steps.{goodStep, goodSteps, stepsOf}
 use Rattle.script.specs.Script.{withRows, scriptOf, meantBy}
 use Rattle.script.specs.Script.Meant.{NoScript, IsScript}
 

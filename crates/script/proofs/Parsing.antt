@@ -11,14 +11,13 @@ use lib.Seq.{sets, length-sets}
 use borrow.Author.Tests.{le-leb, lt-leb}
 use Rattle.lemmas.proofs.Cases.{at-true, at-false, both-branches}
 use Rattle.lemmas.proofs.Stores.{front-taken}
-use Rattle.lemmas.proofs.Tests.{and-intro}
+use Rattle.lemmas.proofs.Tests.{and-intro, and-first, and-later}
 use Rattle.script.specs.declared.numbers.Count.the-variants.{Bad, Read}
 use Rattle.script.specs.declared.script.Parsed.{Parsed}
 use Rattle.script.specs.declared.script.Parsed.the-variants.{NoScript as Parsed·NoScript}
 use Rattle.script.specs.Numbers.{numbersOf, countOf}
 use Rattle.script.specs.Script.{mostNumbers, longest, Meant, scriptOf, meantBy, numbersRead, shapeOf, stepsIn, CodeSays, ParseSays}
 use Rattle.script.specs.Script.Meant.{NoScript}
-use Rattle.script.proofs.Tests.{and-first, and-later}
 use Rattle.script.proofs.Counts.{Counted, bad-count, read-count}
 use Rattle.script.proofs.Shapes.{most-numbers}
 

@@ -11,13 +11,12 @@ use lib.ListN.{length, getD, drop, set, drop-of-length-le}
 use lib.Seq.{drop-cons, set-out, sets, length-sets}
 use borrow.Author.Tests.{le-leb, lt-leb}
 use Rattle.lemmas.proofs.Cases.{at-true, at-false}
-use Rattle.lemmas.proofs.Tests.{and-intro}
+use Rattle.lemmas.proofs.Tests.{and-intro, and-first, and-later}
 use Rattle.script.specs.declared.numbers.Place.{Place}
 use Rattle.script.specs.declared.numbers.Place.the-variants.{Between, Within}
 use Rattle.script.specs.declared.numbers.Next.{Next}
 use Rattle.script.specs.declared.numbers.Next.the-variants.{Number, Strange}
 use Rattle.script.specs.declared.numbers.Count.the-variants.{Bad, Read}
-use Rattle.script.proofs.Tests.{and-first, and-later}
 use Rattle.script.specs.Numbers.{blank, grown, Said, said, ending, ended, EndSays, after, numbersFrom, numbersOf, countOf, ReadSays}
 
 -- ---- what is left of a text, one byte further

@@ -10,13 +10,12 @@ use lib.ListN.{length, getD, take, drop, length-drop}
 use lib.Seq.{drop-cons, take-all, length-take-le}
 use borrow.Author.Tests.{leb-true, leb-false, le-leb, lt-leb, eq-eqb, ne-eqb, eqb-true}
 use Rattle.lemmas.proofs.Cases.{at-true, at-false}
-use Rattle.lemmas.proofs.Tests.{and-intro, and-left, and-right, true-or-false}
+use Rattle.lemmas.proofs.Tests.{and-intro, and-left, and-right, true-or-false, and-first, and-later}
 use Rattle.script.specs.declared.script.Shape.{Shape}
 use Rattle.script.specs.declared.script.Parsed.the-variants.{Script as Parsed·Script}
 use Rattle.script.specs.Steps.{goodSteps, stepsOf}
 use Rattle.script.specs.Script.{most, mostNumbers, Script, withRows, scriptOf, shapeOf}
 use Rattle.script.specs.Script.Meant.{NoScript, IsScript}
-use Rattle.script.proofs.Tests.{and-first, and-later}
 use Rattle.script.proofs.Triples.{steps-length}
 
 -- a part up to the end, as a slice from k on gives it

@@ -11,7 +11,8 @@ use lib.Seq.{drop-cons, sets}
 use borrow.Author.Tests.{ltb-true}
 use Rattle.lemmas.proofs.Cases.{and-not, and-rest}
 use Rattle.lemmas.proofs.Tests.{and-left, and-right}
-use Rattle.script.specs.Steps.{goodStep, stepNumber, goodSteps, stepsOf}
+use Rattle.lent.specs.Steps.{stepNumber}
+use Rattle.script.specs.Steps.{goodStep, goodSteps, stepsOf}
 
 -- ---- one step
 module _ (kind a b : ℕ) where

@@ -4,7 +4,8 @@ ghost use mathlib.Core.Bool.{true};
 ghost use Prim.Native.Nat.{_*_, _≤_};
 ghost use lib.ListN.{length};
 ghost use lib.Seq.{sets};
-ghost use Rattle.script.specs.Steps.{goodStep, stepNumber, goodSteps, stepsOf};
+ghost use Rattle.lent.specs.Steps.{stepNumber};
+ghost use Rattle.script.specs.Steps.{goodStep, goodSteps, stepsOf};
 
 // A step's kind is below KINDS, and its other two numbers are below PARTS.
 const KINDS: u64 = 65536;

@@ -1,6 +1,6 @@
 -- A step among n nodes stays among them: what its record names, and whom it sends to. Assumes nothing.
 use mathlib.Core.Path.{_≡_, refl, sym, subst}
-use mathlib.Core.Bool.{Bool, true, false}
+use mathlib.Core.Bool.{Bool, false}
 use mathlib.Core.Logic.{_⊎_, inl, inr}
 use Prim.Native.Nat.{ℕ, _<_}
 use Rattle.lemmas.proofs.Cases.{both-branches}
@@ -12,11 +12,12 @@ use Rattle.records.specs.declared.messages.Kind.{Kind}
 use Rattle.records.specs.declared.messages.Kind.the-variants.{Notify, Grant, Ack, Done}
 use Rattle.records.specs.Causes.{strangeWhy}
 use Rattle.records.specs.Messages.{Letter}
-use Rattle.records.specs.Records.{State, called, free, blankOf, inRound, withCall, markOf}
+use Rattle.records.specs.Records.{State, blankOf, inRound, withCall, markOf}
+use Rattle.records.proofs.Marks.{mark-round}
 use Rattle.records.proofs.Among.{Among, by-among, sender-among, blank-among, round-among, call-among, freed-among, mark-among}
-use Rattle.step.specs.Step.{Seen, Receivers, Move, Outcome, active, nobody, sending, beCalled, onNotify, frees, onGrant, react, owed, settle, openRound, take, receive}
+use Rattle.step.specs.Step.{Seen, Receivers, Move, Outcome, nobody, sending, beCalled, react, owed, settle, openRound, take, receive}
 use Rattle.step.specs.Sent.{toWhom}
-use Rattle.step.proofs.Reacts.{called-waiting, called-active, called-again, notify-again, notify-calls, grant-frees, grant-again}
+use Rattle.step.proofs.Reacts.{called-cases, react-cases}
 use Rattle.step.proofs.Local.{Stays, takes-or-stays}
 
 -- the receivers of each kind
@@ -51,34 +52,21 @@ pub record Within (n round : ℕ) (s : State) (r : Receivers) : Type 0 where
 abbrev Moved : ℕ → ℕ → Move → Type 0
 Moved n round m = Within n round (m .state) (m .sends)
 
-moved-as : (n round : ℕ) {m m′ : Move} → m ≡ m′ → Moved n round m′ → Moved n round m
-moved-as n round e w = subst (λ (x : Move). Moved n round x) (sym e) w
-
 module _ (n : ℕ) (o : Seen) (out : Inside (o .out) (below n)) (ins : Inside (o .ins) (below n)) where
   module _ (s : State) (w : Among n s) where
-    called-as : (by : Why) → strangeWhy n by ≡ false → (a f : Bool) → active o ≡ a → free s ≡ f → Moved n (s .round) (beCalled o by s)
-    called-as by h false f d e = moved-as n (s .round) (called-waiting o s by d) (record { names = call-among n s w by h; sends = sending-among n (o .out) out Notify; in-round = refl })
-    called-as by h true true d e = moved-as n (s .round) (called-again o s by d e) (record { names = call-among n s w by h; sends = nobody-among n; in-round = refl })
-    called-as by h true false d e =
-        moved-as n (s .round) (called-active o s by d e) (record { names = freed-among n (withCall by s) (call-among n s w by h) Itself refl; sends = sending-among n (o .ins) ins Grant; in-round = refl })
-
     called-among : (by : Why) → strangeWhy n by ≡ false → Moved n (s .round) (beCalled o by s)
-    called-among by h = called-as by h (active o) (free s) refl refl
+    called-among by h = called-cases (Moved n (s .round)) o s by
+        (λ d. record { names = call-among n s w by h; sends = sending-among n (o .out) out Notify; in-round = refl })
+        (λ d e. record { names = call-among n s w by h; sends = nobody-among n; in-round = refl })
+        (λ d e. record { names = freed-among n (withCall by s) (call-among n s w by h) Itself refl; sends = sending-among n (o .ins) ins Grant; in-round = refl })
 
-    module _ (from : ℕ) (h : from < n) where
-      notified : (c : Bool) → called s ≡ c → Moved n (s .round) (onNotify o from s)
-      notified true e = moved-as n (s .round) (notify-again o s from e) (record { names = w; sends = sending-among n _ (single-below n from h) Done; in-round = refl })
-      notified false e = moved-as n (s .round) (notify-calls o s from e) (called-among (By (record { 0 = from })) (by-among n from h))
-
-      granted : (t : Bool) → frees o s ≡ t → Moved n (s .round) (onGrant o from s)
-      granted true e = moved-as n (s .round) (grant-frees o s from e) (record { names = freed-among n s w (By (record { 0 = from })) (by-among n from h); sends = sending-among n (o .ins) ins Grant; in-round = refl })
-      granted false e = moved-as n (s .round) (grant-again o s from e) (record { names = w; sends = sending-among n _ (single-below n from h) Ack; in-round = refl })
-
-      react-among : (kind : Kind) → Moved n (s .round) (react o from s kind)
-      react-among Notify = notified (called s) refl
-      react-among Grant = granted _ refl
-      react-among Ack = record { names = w; sends = nobody-among n; in-round = refl }
-      react-among Done = record { names = w; sends = nobody-among n; in-round = refl }
+    react-among : (from : ℕ) → from < n → (kind : Kind) → Moved n (s .round) (react o from s kind)
+    react-among from h = react-cases (Moved n (s .round)) o s from
+        (λ c. record { names = w; sends = sending-among n _ (single-below n from h) Done; in-round = refl })
+        (λ c. called-among (By (record { 0 = from })) (by-among n from h))
+        (λ t. record { names = freed-among n s w (By (record { 0 = from })) (by-among n from h); sends = sending-among n (o .ins) ins Grant; in-round = refl })
+        (λ t. record { names = w; sends = sending-among n _ (single-below n from h) Ack; in-round = refl })
+        (record { names = w; sends = nobody-among n; in-round = refl })
 
   -- an answer that was held back
   owed-among : (b : Bool) (by : Why) → strangeWhy n by ≡ false → Inside (owed b by) (below n)
@@ -102,18 +90,11 @@ module _ (n : ℕ) (o : Seen) (out : Inside (o .out) (below n)) (ins : Inside (o
 
   take-among : (s : State) (m : Letter) → Among n s → m .from < n → Within n (s .round) (take o s m .state) (take o s m .sends)
   unfolding take
-  take-among s m w h = settle-among (s .round) s _ (marked (m .kind))
-    where
-      same-round : (kind : Kind) (from : ℕ) → markOf kind from s .round ≡ s .round
-      same-round Notify from = refl
-      same-round Grant from = refl
-      same-round Ack from = refl
-      same-round Done from = refl
-
-      marked : (kind : Kind) → Moved n (s .round) (react o (m .from) (markOf kind (m .from) s) kind)
-      marked kind =
-          subst (λ (x : ℕ). Moved n x (react o (m .from) (markOf kind (m .from) s) kind)) (same-round kind (m .from))
-          (react-among (markOf kind (m .from) s) (mark-among n s w (m .from) h kind) (m .from) h kind)
+  take-among s m w h =
+      let marked = markOf (m .kind) (m .from) s in
+      settle-among (s .round) s _
+      (subst (λ (x : ℕ). Moved n x (react o (m .from) marked (m .kind))) (mark-round (m .from) s (m .kind))
+      (react-among marked (mark-among n s w (m .from) h (m .kind)) (m .from) h (m .kind)))
 
   -- Theorem: so does a message from a node that is taken, and its record is in the message's round; any other changes nothing.
   pub receive-among : (r : State) (m : Letter) → Among n r → m .from < n

@@ -7,6 +7,8 @@ pub mod Held
 pub mod Keeps
 pub mod Local
 pub mod Taken
+pub mod AtOnce
 pub mod Letters
 pub mod Unique
 pub mod Among
+pub mod Open

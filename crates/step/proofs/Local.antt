@@ -1,36 +1,34 @@
 -- The local laws: what holds of one node's record through an opening and through any message, whatever the other nodes do.
 -- Assumes nothing.
-use mathlib.Core.Path.{_≡_, refl, sym, ap, ap₂, _∙_, subst}
-use mathlib.Core.Bool.{Bool, true, false, cond, not}
+use mathlib.Core.Path.{_≡_, refl, sym, ap₂, _∙_, subst}
+use mathlib.Core.Bool.{Bool, true, false, cond, not, false≢true}
 use mathlib.Core.Logic.{_⊎_, inl, inr}
 use Prim.Native.Nat.{ℕ, _<_}
 use lib.Dec.{eqb}
 use borrow.Author.Tests.{not-true, not-false}
 use Rattle.lemmas.proofs.Cases.{both-branches}
-use Rattle.lemmas.proofs.Tests.{true-or-false, and-left, and-right, or-left-false, or-right-false}
-use Rattle.nodes.specs.Sets.{bit, In, Inside, has, with}
+use Rattle.lemmas.proofs.Tests.{not-both, true-or-false, and-left, and-right, or-left-false, or-right-false}
+use Rattle.nodes.specs.Sets.{bit, In, Inside, has, union, minus, single, with}
 use Rattle.nodes.proofs.Bit.{has-in, has-out, single-inside, with-inside, empty-inside}
 use Rattle.records.specs.declared.causes.Why.the-variants.{Itself, By}
 use Rattle.records.specs.declared.messages.Kind.{Kind}
 use Rattle.records.specs.declared.messages.Kind.the-variants.{Notify, Grant, Ack, Done}
+use Rattle.records.specs.Causes.{senderOf}
 use Rattle.records.specs.Messages.{Letter}
 use Rattle.records.specs.Records.{State, called, free, blankOf, inRound, hadOf, markOf}
 use Rattle.records.specs.Rounds.{behind, ahead}
 use Rattle.waits.specs.Waits.{Waits, Lawful}
 use Rattle.step.specs.declared.answers.Answer.{Answer}
 use Rattle.step.specs.declared.answers.Answer.the-variants.{Old, Stray, Repeat}
-use Rattle.step.specs.Step.{Seen, Move, Outcome, still, seenIn, active, beCalled, frees, react, settle, openRound, neighbours, expects, stray, take, arrive, receive}
-use Rattle.step.specs.Sent.{Grows, Sound, Formed, Fresh}
+use Rattle.step.specs.Step.{Seen, Outcome, still, seenIn, beCalled, react, newly, settle, openRound, neighbours, expects, stray, take, arrive, receive}
+use Rattle.step.specs.Sent.{answered, Adds, Grows, Sound, Formed, Fresh}
 use Rattle.step.proofs.Held.{adds-held, adds-still}
-use Rattle.step.proofs.Reacts.{called-waiting, called-active, notify-again, notify-calls, grant-frees, grant-again}
+use Rattle.step.proofs.Reacts.{called-cases, notify-cases, grant-cases}
 use Rattle.step.proofs.Keeps.{Keeps, not-happened, notified-keeps, granted-keeps, freed-keeps, acked-keeps, done-keeps, called-keeps, active-keeps}
 
 -- a node of a lawful graph of waits
 pub seen-sound : (w : Waits) → Lawful w → (i : ℕ) → i < w .nodes → Sound (seenIn w i)
 seen-sound w l i h = record { monotone = λ g k s e. l .monotone i g k h s e; active-out = λ e. l .active i h e }
-
-moves-as : {o : Seen} {s : State} {m n : Move} → m ≡ n → Keeps o s n → Keeps o s m
-moves-as {o} {s} e k = subst (λ (x : Move). Keeps o s x) (sym e) k
 
 module _ (o : Seen) (sound : Sound o) where
   -- a blank record can come about
@@ -51,43 +49,37 @@ module _ (o : Seen) (sound : Sound o) where
       nobody-had Ack = empty-inside (o .ins)
       nobody-had Done = empty-inside (o .out)
 
-  opens-keep : (round : ℕ) (b : Bool) → active o ≡ b → Keeps o (blankOf round) (beCalled o Itself (blankOf round))
-  opens-keep round false e =
-      moves-as (called-waiting o (blankOf round) Itself e)
-      (called-keeps o (blankOf round) (blank-formed round) Itself 0 refl refl (empty-inside 0) (empty-inside (o .ins)) (λ r. adds-still 0 r) e)
-  opens-keep round true e =
-      moves-as (called-active o (blankOf round) Itself e refl)
-      (active-keeps o (blankOf round) (blank-formed round) Itself 0 refl refl (empty-inside 0) (empty-inside (o .ins)) (λ r. adds-still 0 r) sound e refl)
+  opens-keep : (round : ℕ) → Keeps o (blankOf round) (beCalled o Itself (blankOf round))
+  opens-keep round = called-cases (Keeps o (blankOf round)) o (blankOf round) Itself
+      (called-keeps o (blankOf round) (blank-formed round) Itself 0 refl refl (empty-inside 0) (empty-inside (o .ins)) (λ r. adds-still 0 r))
+      (λ d e. absurd (false≢true e))
+      (λ d e. active-keeps o (blankOf round) (blank-formed round) Itself 0 refl refl (empty-inside 0) (empty-inside (o .ins)) (λ r. adds-still 0 r) sound d e)
 
   module _ (s : State) (w : Formed o s) where
     -- the first NOTIFY
-    first-keeps : (a : ℕ) → In a (o .ins) → bit (s .notify) a ≡ 0 → called s ≡ false → (b : Bool) → active o ≡ b
-        → Keeps o s (beCalled o (By (record { 0 = a })) (markOf Notify a s))
-    first-keeps a m z c false e =
-        moves-as (called-waiting o (markOf Notify a s) (By (record { 0 = a })) e)
-        (called-keeps o s w (By (record { 0 = a })) (with (s .notify) a) c refl (single-inside (s .notify) a)
-        (with-inside (s .notify) a (o .ins) (w .senders Notify) m) (λ r. rw (not-happened (s .call) c) (adds-held (s .notify) a z r)) e)
-    first-keeps a m z c true e =
-        let f : free s ≡ false = w .if-active e .0 ∙ c in
-        moves-as (called-active o (markOf Notify a s) (By (record { 0 = a })) e f)
-        (active-keeps o s w (By (record { 0 = a })) (with (s .notify) a) c refl (single-inside (s .notify) a)
-        (with-inside (s .notify) a (o .ins) (w .senders Notify) m) (λ r. rw (not-happened (s .call) c) (adds-held (s .notify) a z r)) sound e f)
+    first-keeps : (a : ℕ) → In a (o .ins) → bit (s .notify) a ≡ 0 → called s ≡ false → Keeps o s (beCalled o (By (record { 0 = a })) (markOf Notify a s))
+    first-keeps a m z c =
+        let inside = with-inside (s .notify) a (o .ins) (w .senders Notify) m in
+        called-cases (Keeps o s) o (markOf Notify a s) (By (record { 0 = a }))
+        (called-keeps o s w (By (record { 0 = a })) (with (s .notify) a) c refl (single-inside (s .notify) a) inside held)
+        (λ d e. absurd (not-both e (w .if-active d .0 ∙ c)))
+        (λ d e. active-keeps o s w (By (record { 0 = a })) (with (s .notify) a) c refl (single-inside (s .notify) a) inside held sound d e)
+      where
+        held : (r : Bool) → Adds (minus (s .notify) (senderOf (s .call))) (union 0 (cond (newly false r) (single a) 0)) (answered r (with (s .notify) a) (single a))
+        held r = rw (not-happened (s .call) c) (adds-held (s .notify) a z r)
 
-    notify-keeps : (a : ℕ) → In a (o .ins) → bit (s .notify) a ≡ 0 → (b : Bool) → called s ≡ b → Keeps o s (react o a (markOf Notify a s) Notify)
-    notify-keeps a m z true c = moves-as (notify-again o (markOf Notify a s) a c) (notified-keeps o s w a m z c)
-    notify-keeps a m z false c = moves-as (notify-calls o (markOf Notify a s) a c) (first-keeps a m z c (active o) refl)
+    notify-keeps : (a : ℕ) → In a (o .ins) → bit (s .notify) a ≡ 0 → Keeps o s (react o a (markOf Notify a s) Notify)
+    notify-keeps a m z = notify-cases (Keeps o s) o (markOf Notify a s) a (notified-keeps o s w a m z) (first-keeps a m z)
 
-    grant-keeps : (a : ℕ) → In a (o .out) → bit (s .grant) a ≡ 0 → (b : Bool) → frees o (markOf Grant a s) ≡ b
-        → Keeps o s (react o a (markOf Grant a s) Grant)
-    grant-keeps a m z true t =
-        moves-as (grant-frees o (markOf Grant a s) a t)
-        (freed-keeps o s w a sound m z (not-true (free s) (and-left (not (free s)) _ t)) (and-right (not (free s)) _ t))
-    grant-keeps a m z false t = moves-as (grant-again o (markOf Grant a s) a t) (granted-keeps o s w a sound m z t)
+    grant-keeps : (a : ℕ) → In a (o .out) → bit (s .grant) a ≡ 0 → Keeps o s (react o a (markOf Grant a s) Grant)
+    grant-keeps a m z = grant-cases (Keeps o s) o (markOf Grant a s) a
+        (λ t. freed-keeps o s w a sound m z (not-true (free s) (and-left (not (free s)) _ t)) (and-right (not (free s)) _ t))
+        (granted-keeps o s w a sound m z)
 
     react-keeps : (kind : Kind) (a : ℕ) → In a (neighbours o kind) → bit (hadOf kind s) a ≡ 0 → expects s kind ≡ true
         → Keeps o s (react o a (markOf kind a s) kind)
-    react-keeps Notify a m z e = notify-keeps a m z (called s) refl
-    react-keeps Grant a m z e = grant-keeps a m z _ refl
+    react-keeps Notify a m z e = notify-keeps a m z
+    react-keeps Grant a m z e = grant-keeps a m z
     react-keeps Ack a m z e = acked-keeps o s w a m e
     react-keeps Done a m z e = done-keeps o s w a m e
 
@@ -113,11 +105,11 @@ module _ (o : Seen) (sound : Sound o) where
   -- Theorem: the same of an opening, from a blank record.
   pub open-grows : (round : ℕ) → Grows o (blankOf round) (openRound o round .sends) (openRound o round .state)
   unfolding openRound settle
-  open-grows round = opens-keep round (active o) refl .grows
+  open-grows round = opens-keep round .grows
 
   pub open-formed : (round : ℕ) → Formed o (openRound o round .state)
   unfolding openRound settle
-  open-formed round = opens-keep round (active o) refl .formed
+  open-formed round = opens-keep round .formed
 
 -- ---- any message
 module _ (o : Seen) (r : State) (m : Letter) where

@@ -10,12 +10,14 @@ use Rattle.records.specs.declared.messages.Kind.{Kind}
 use Rattle.records.specs.declared.messages.Kind.the-variants.{Notify, Grant, Ack, Done}
 use Rattle.records.specs.Messages.{Letter}
 use Rattle.records.specs.Records.{State, blankOf, hadOf, markOf}
+use Rattle.waits.specs.declared.rows.Row.{Row}
 use Rattle.step.specs.declared.answers.Verdict.{Verdict}
 use Rattle.step.specs.declared.answers.Verdict.the-variants.{NoVerdict, Deadlocked, NotDeadlocked}
 use Rattle.step.specs.declared.answers.Answer.{Answer}
 use Rattle.step.specs.declared.answers.Answer.the-variants.{Taken, Opened}
 use Rattle.step.specs.Answers.{verdictCode}
-use Rattle.step.specs.Step.{Seen, Receivers, Move, End, Outcome, acked, complete, nobody, sending, move, becomeFree, beCalled, react, newly, owed, verdictOf, settle, saying, still, openRound, neighbours, take, arrive}
+use Rattle.step.specs.Step.{Seen, Receivers, Move, End, Outcome, acked, complete, nobody, sending, move, becomeFree, beCalled, react, newly, owed, verdictOf, settle, saying, still, openRound, neighbours, take, arrive, receive}
+use Rattle.step.specs.Views.{seenBy}
 
 pub verdict-code-le : (v : Verdict) → verdictCode v ≤ 2
 verdict-code-le NoVerdict = omega arith
@@ -96,6 +98,16 @@ had-before s k from e f g h = sym (g ∙ ap (λ (x : ℕ). has x from) (f ∙ ap
 
 pub arrived-as : (o : Seen) (r : State) (m : Letter) {s t : State} {x : Outcome} → x ≡ arrive o r s m → s ≡ t → x ≡ arrive o r t m
 arrived-as o r m e f = e ∙ ap (λ (y : State). arrive o r y m) f
+
+-- ---- what a node sees, and what it does with that
+pub seen-as : (me : ℕ) {r row : Row} {x ins : ℕ} → r ≡ row → x ≡ ins → seenBy me r x ≡ seenBy me row ins
+seen-as me e f = ap₂ (seenBy me) e f
+
+pub opened-as : (round : ℕ) {o p : Seen} {x : Outcome} → x ≡ openRound o round → o ≡ p → x ≡ openRound p round
+opened-as round e f = e ∙ ap (λ (y : Seen). openRound y round) f
+
+pub received-as : (m : Letter) {o p : Seen} {s t : State} {x : Outcome} → x ≡ receive o s m → o ≡ p → s ≡ t → x ≡ receive p t m
+received-as m e f g = e ∙ ap₂ (λ (y : Seen) (z : State). receive y z m) f g
 
 -- ---- who calls and frees
 pub called-by : (o : Seen) (s : State) {by why : Why} {m : Move} → m ≡ beCalled o by s → by ≡ why → m ≡ beCalled o why s

@@ -1,6 +1,8 @@
 -- What the structs of the code stand for. Assumes nothing.
+use Prim.Native.Nat.{ℕ}
 use Rattle.nodes.specs.Words.{num}
 use Rattle.records.specs.Records.{stateOf}
+use Rattle.waits.specs.declared.rows.Row.{Row}
 use Rattle.waits.specs.Rows.{outOf, holdsOf}
 use Rattle.step.specs.declared.awaited.Own.{Own}
 use Rattle.step.specs.declared.sends.Sends.{Sends}
@@ -9,8 +11,12 @@ use Rattle.step.specs.declared.steps.End.{End as Steps·End}
 use Rattle.step.specs.declared.answers.Stepped.{Stepped}
 use Rattle.step.specs.Step.{Seen, Receivers, Move, End, Outcome}
 
+-- what a node sees that has this number, this row and this IN
+abbrev pub seenBy : ℕ → Row → ℕ → Seen
+seenBy me r ins = record { me = me; out = outOf r; holds = holdsOf r; ins = ins }
+
 abbrev pub seenOf : Own → Seen
-seenOf o = record { me = o .me .0; out = outOf (o .row); holds = holdsOf (o .row); ins = num (o .ins) }
+seenOf o = seenBy (o .me .0) (o .row) (num (o .ins))
 
 abbrev pub receiversOf : Sends → Receivers
 receiversOf s = record { notify = num (s .notify); grant = num (s .grant); ack = num (s .ack); done = num (s .done) }

@@ -14,7 +14,6 @@ use crate::awaited::Own;
 use crate::steps::be_called;
 use crate::steps::react;
 use crate::steps::settle;
-use nodes::Node;
 use nodes::Round;
 use nodes::Set;
 use records::Cause;

@@ -62,12 +62,6 @@ write-inside t (b ∷ bs) h =
     let i = write-inside (one t b) bs (one-inside t b h) in
     omega (arith, one-length t b)
 
--- with no place left nothing changes
-pub write-full : (t : Text) (bs : List ℕ) → length (t .places) ≤ t .end → write t bs ≡ t
-unfolding write
-write-full t [] h = refl
-write-full t (b ∷ bs) h = ap (λ (x : Text). write x bs) (sym (one-lost (t .places) (t .end) b h)) ∙ write-full t bs h
-
 -- one call after the other
 pub write-both : (t : Text) {u v : Text} (xs ys : List ℕ) → u ≡ write t xs → v ≡ write u ys → v ≡ write t (xs ++ ys)
 write-both t xs ys e f = f ∙ ap (λ (x : Text). write x ys) e ∙ write-append t xs ys

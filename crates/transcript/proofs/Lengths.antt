@@ -23,7 +23,7 @@ use Rattle.step.specs.Answers.{codeOf}
 use Rattle.lent.specs.Coded.{messageOf}
 use Rattle.lent.specs.Steps.{stepOf, answerNumber}
 use Rattle.bench.specs.Bench.{Bench, After, fresh}
-use Rattle.bench.specs.Strange.{strangeSent, strangeMessages, strangeBench, Good}
+use Rattle.bench.specs.Strange.{strangeMessageOn, strangeMessages, strangeBench, Good}
 use Rattle.bench.specs.Steps.{stepOn}
 use Rattle.bench.specs.Runs.{said, runOn, answersOn, runOf}
 use Rattle.bench.proofs.Sound.{good-sound, shaped, few-sent, sent-listed}
@@ -66,8 +66,8 @@ module _ (n : ℕ) (rows : List ℕ) where
       )
 
 -- ---- the messages
-line-short : (n highest k : ℕ) (m : Message) → n ≤ places → k < 100000 → strangeSent n highest m ≡ false → length (lineOf k m) ≤ 39
-unfolding strangeSent strangeMessage noNode
+line-short : (n highest k : ℕ) (m : Message) → n ≤ places → k < 100000 → strangeMessageOn n highest m ≡ false → length (lineOf k m) ≤ 39
+unfolding strangeMessageOn strangeMessage noNode
 line-short n highest k m few h e =
     let f = or-right-false (leb kinds (m .kind)) _ (or-left-false _ (ahead (m .round .0) highest) e) in
     let g = or-right-false (noNode n (m .from .0)) _ f in
@@ -81,7 +81,7 @@ messages-short : (n highest : ℕ) → n ≤ places → (l : List ℕ) (k : ℕ)
 unfolding strangeMessages messageLines
 messages-short n highest few [] k h e = omega arith
 messages-short n highest few (x ∷ l) k h e =
-    let p : ℕ → Bool = λ y. strangeSent n highest (messageOf y) in
+    let p : ℕ → Bool = λ y. strangeMessageOn n highest (messageOf y) in
     omega (
       arith,
       length-append (lineOf k (messageOf x)) (messageLines (suc k) l),

@@ -72,7 +72,7 @@ module _ (n k : ℕ) (r : Row) (ok : Fine n k r) where
       let first-in : Inside (num (r .first)) 0 = inside-in _ _ (λ j i. rw z at (out-first r j i)) in
       omega (arith, threshold-range e, size-mono (num (r .first)) 0 first-in, size-empty)
 
-  waiting : holdsOf r 0 ≡ false → outOf r ≡ 0 → ⊥
+  pub waiting : holdsOf r 0 ≡ false → outOf r ≡ 0 → ⊥
   waiting f = ⊎-elim (λ (e : r .kind ≡ 0). λ z. not-both (holds-0 r 0 e) f) (λ s. ⊎-elim first-nonempty some-set s) kinds
 
 -- Theorem: rows that are accepted give a lawful graph of waits.

@@ -7,3 +7,4 @@ pub mod Condition
 pub mod Lawful
 pub mod In
 pub mod Meets
+pub mod Open

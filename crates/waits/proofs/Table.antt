@@ -123,11 +123,6 @@ module _ (n : ℕ) (rows : List ℕ) (ok : checkOf n rows ≡ Accepted) where
   pub accepted-count : wrongCount n (length rows) ≡ false
   accepted-count = check-accepted n rows .0 ok (line 1 0 (wrongCount n (length rows))) (here refl)
 
-  pub accepted-edges : manyEdges n rows ≡ false
-  accepted-edges =
-      check-accepted n rows .0 ok (line 8 0 (manyEdges n rows))
-      (there (Memᴰ·append-right (rowsLines n rows 0 n) (here refl)))
-
   pub accepted-shaped : Shaped n rows
   accepted-shaped = right-count n (length rows) accepted-count
 

@@ -4,14 +4,14 @@ use Prim.Native.Nat.{_-_, _≤_}
 use lib.ListN.{take}
 use borrow.Author.Needs.{needs}
 use Rattle.bench.proofs.Made.{message-found, message-passed, messages-passed}
-use Rattle.bench.specs.Strange.{strangeSent}
+use Rattle.bench.specs.Strange.{strangeMessageOn}
 use Rattle.lemmas.proofs.Lists.{AnyLeft}
 use Rattle.lent.specs.Coded.{messageOf}
 use Rattle.bench.proofs.checks.strange_messages.Statement.{statement}
 use Rattle.bench.proofs.checks.strange_messages.Tie as tie
 
 abbrev Inv-loop : tie.InvT-loop
-Inv-loop nodes messages sent highest k₀ k = (k ≤ sent) × AnyLeft (λ x. strangeSent nodes (highest .0) (messageOf x)) (take sent messages) k
+Inv-loop nodes messages sent highest k₀ k = (k ≤ sent) × AnyLeft (λ x. strangeMessageOn nodes (highest .0) (messageOf x)) (take sent messages) k
 
 abbrev μ-loop : tie.MeasureT-loop
 μ-loop nodes messages sent highest k₀ k = sent - k
@@ -28,11 +28,11 @@ shared-slice-read-message-of c = search needs
 message-of-requires : tie.Need-message-of-requires Inv-loop μ-loop
 message-of-requires c κs = search needs
 
-strange-sent-requires : tie.Need-strange-sent-requires Inv-loop μ-loop
-strange-sent-requires c κs = search needs
+strange-message-on-requires : tie.Need-strange-message-on-requires Inv-loop μ-loop
+strange-message-on-requires c κs = search needs
 
 returns : tie.Need-returns Inv-loop μ-loop
-returns c = message-found _ _ _ _ (c .before .before .before .before .before .before .before .pre) _ (c .before .before .before .before .before .loop .inv .1) (c .before .before .before .before .loop-test .taken) (c .before .before .message-of .ensures) (c .before .strange-sent .ensures) (c .if1 .taken)
+returns c = message-found _ _ _ _ (c .before .before .before .before .before .before .before .pre) _ (c .before .before .before .before .before .loop .inv .1) (c .before .before .before .before .loop-test .taken) (c .before .before .message-of .ensures) (c .before .strange-message-on .ensures) (c .if1 .taken)
 
 add-k : tie.Need-add-k Inv-loop μ-loop
 add-k c = search needs
@@ -41,7 +41,7 @@ loop-less : tie.Need-loop-less Inv-loop μ-loop
 loop-less c = search needs
 
 loop-again : tie.Need-loop-again Inv-loop μ-loop
-loop-again c = (search needs, message-passed _ _ _ _ (c .before .before .before .before .before .before .before .pre) _ (c .before .before .before .before .before .loop .inv .1) (c .before .before .before .before .loop-test .taken) (c .before .before .message-of .ensures) (c .before .strange-sent .ensures) (c .if1 .left))
+loop-again c = (search needs, message-passed _ _ _ _ (c .before .before .before .before .before .before .before .pre) _ (c .before .before .before .before .before .loop .inv .1) (c .before .before .before .before .loop-test .taken) (c .before .before .message-of .ensures) (c .before .strange-message-on .ensures) (c .if1 .left))
 
 returns-2 : tie.Need-returns-2 Inv-loop μ-loop
 returns-2 c = messages-passed _ _ _ _ (c .before .before .before .pre) _ (c .before .loop .inv .1) (c .loop-test .left)
@@ -56,7 +56,7 @@ strange-messages-spec =
     mul-message-of
     shared-slice-read-message-of
     message-of-requires
-    strange-sent-requires
+    strange-message-on-requires
     returns
     add-k
     loop-less

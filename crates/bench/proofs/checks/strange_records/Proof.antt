@@ -19,11 +19,11 @@ loop-holds c = (search needs, refl)
 record-at-requires : tie.Need-record-at-requires Inv-loop μ-loop
 record-at-requires c κs = omega (arith, (c .before .before .before .pre .1))
 
-strange-kept-requires : tie.Need-strange-kept-requires Inv-loop μ-loop
-strange-kept-requires c κs = (c .before .before .before .before .pre .0)
+strange-record-on-requires : tie.Need-strange-record-on-requires Inv-loop μ-loop
+strange-record-on-requires c κs = (c .before .before .before .before .pre .0)
 
 returns : tie.Need-returns Inv-loop μ-loop
-returns c = record-found _ _ _ _ (c .before .before .record-at .ensures) (c .before .strange-kept .ensures) (c .before .before .before .loop-test .taken) (c .if1 .taken)
+returns c = record-found _ _ _ _ (c .before .before .record-at .ensures) (c .before .strange-record-on .ensures) (c .before .before .before .loop-test .taken) (c .if1 .taken)
 
 add-i : tie.Need-add-i Inv-loop μ-loop
 add-i c = search needs
@@ -32,7 +32,7 @@ loop-less : tie.Need-loop-less Inv-loop μ-loop
 loop-less c = search needs
 
 loop-again : tie.Need-loop-again Inv-loop μ-loop
-loop-again c = (search needs, record-passed _ _ _ _ (c .before .before .record-at .ensures) (c .before .strange-kept .ensures) (c .before .before .before .before .loop .inv .1) (c .if1 .left))
+loop-again c = (search needs, record-passed _ _ _ _ (c .before .before .record-at .ensures) (c .before .strange-record-on .ensures) (c .before .before .before .before .loop .inv .1) (c .if1 .left))
 
 returns-2 : tie.Need-returns-2 Inv-loop μ-loop
 returns-2 c = let e : (c .before .loop .i) ≡ (c .before .before .before .args .nodes) = omega arith in records-passed _ _ _ e (c .before .loop .inv .1)
@@ -45,7 +45,7 @@ strange-records-spec =
     μ-loop
     loop-holds
     record-at-requires
-    strange-kept-requires
+    strange-record-on-requires
     returns
     add-i
     loop-less

@@ -17,7 +17,7 @@ receive-requires : tie.Need-receive-requires
 receive-requires c κs = arrive-fits _ _ _ (c .before .before .before .before .before .before .before .pre .0) _ (c .before .before .before .before .before .before .before .pre .1) (c .record-at .ensures)
 
 join-requires : tie.Need-join-requires
-join-requires c κs = arrive-joins _ _ _ (c .before .before .before .before .before .before .before .before .before .before .pre .0) _ (c .before .before .before .before .before .before .before .before .before .before .pre .1) (arrived-as _ _ _ _ _ (c .before .before .receive .ensures) (c .before .before .before .before .before .own-of .ensures) (c .before .before .before .record-at .ensures))
+join-requires c κs = arrive-joins _ _ _ (c .before .before .before .before .before .before .before .before .before .before .pre .0) _ (c .before .before .before .before .before .before .before .before .before .before .pre .1) (arrived-as _ _ _ (c .before .before .receive .ensures) (c .before .before .before .before .before .own-of .ensures) (c .before .before .before .record-at .ensures))
 
 same-length : tie.Need-same-length
 same-length c = search needs
@@ -27,7 +27,7 @@ same-length-2 c = search needs
 
 returns : tie.Need-returns
 unfolding arriveAt
-returns c = c .before .before .before .before .join .ensures ∙ ap (join _ _ _) (arrived-as _ _ _ _ _ (c .before .before .before .before .before .before .before .receive .ensures) (c .before .before .before .before .before .before .before .before .before .before .own-of .ensures) (c .before .before .before .before .before .before .before .before .record-at .ensures))
+returns c = c .before .before .before .before .join .ensures ∙ ap (join _ _ _) (arrived-as _ _ _ (c .before .before .before .before .before .before .before .receive .ensures) (c .before .before .before .before .before .before .before .before .before .before .own-of .ensures) (c .before .before .before .before .before .before .before .before .record-at .ensures))
 
 pub arrive-at-spec : {M : Type 1} → statement M
 arrive-at-spec = tie.close (tie.spec own-of-requires record-at-requires receive-requires join-requires same-length same-length-2 returns)

@@ -2,7 +2,8 @@
 use mathlib.Core.Path.{_∙_, ap}
 use borrow.Author.Needs.{needs}
 use borrow.Author.Tests.{le-leb, lt-leb}
-use Rattle.bench.proofs.Made.{open-joins, opened-as, refused-as}
+use Rattle.step.proofs.Said.{opened-as}
+use Rattle.bench.proofs.Made.{open-joins, refused-as}
 use Rattle.bench.proofs.Sound.{good-sound, shaped}
 use Rattle.bench.specs.Steps.{join, openAt}
 use Rattle.lemmas.proofs.Cases.{at-false, at-true, flag}
@@ -34,7 +35,7 @@ open-round-requires : tie.Need-open-round-requires
 open-round-requires c κs = search needs
 
 join-requires : tie.Need-join-requires
-join-requires c κs = open-joins _ _ _ (c .before .before .before .before .before .before .before .before .before .before .before .pre) _ _ (c .before .before .before .before .before .before .if1 .left) (flag (c .before .before .before .before .before .cannot-open .ensures) (c .before .before .before .before .if2 .left)) (opened-as _ _ _ _ (c .before .before .open-round .ensures) (c .before .before .before .own-of .ensures))
+join-requires c κs = open-joins _ _ _ (c .before .before .before .before .before .before .before .before .before .before .before .pre) _ _ (c .before .before .before .before .before .before .if1 .left) (flag (c .before .before .before .before .before .cannot-open .ensures) (c .before .before .before .before .if2 .left)) (opened-as _ (c .before .before .open-round .ensures) (c .before .before .before .own-of .ensures))
 
 same-length : tie.Need-same-length
 same-length c = search needs
@@ -44,7 +45,7 @@ same-length-2 c = search needs
 
 returns-3 : tie.Need-returns-3
 unfolding openAt noNode
-returns-3 c = at-false _ (lt-leb _ _ (c .before .before .before .before .before .before .before .before .before .before .before .if1 .left)) (at-false _ (flag (c .before .before .before .before .before .before .before .before .before .before .cannot-open .ensures) (c .before .before .before .before .before .before .before .before .before .if2 .left)) ((c .before .before .before .before .join .ensures) ∙ ap (join _ _ _) (opened-as _ _ _ _ (c .before .before .before .before .before .before .before .open-round .ensures) (c .before .before .before .before .before .before .before .before .own-of .ensures))))
+returns-3 c = at-false _ (lt-leb _ _ (c .before .before .before .before .before .before .before .before .before .before .before .if1 .left)) (at-false _ (flag (c .before .before .before .before .before .before .before .before .before .before .cannot-open .ensures) (c .before .before .before .before .before .before .before .before .before .if2 .left)) ((c .before .before .before .before .join .ensures) ∙ ap (join _ _ _) (opened-as _ (c .before .before .before .before .before .before .before .open-round .ensures) (c .before .before .before .before .before .before .before .before .own-of .ensures))))
 
 pub open-at-spec : {M : Type 1} → statement M
 open-at-spec =

@@ -1,10 +1,11 @@
 -- `deliver` meets its contract. Assumes nothing.
-use mathlib.Core.Path.{sym, _∙_}
+use mathlib.Core.Path.{refl, sym, _∙_}
 use native.Mathlib.Omega.{arith}
 use borrow.Author.Needs.{needs}
 use Rattle.node.specs.Calls.{deliverOf}
 use Rattle.node.proofs.Refused.{deliver-accepted}
-use Rattle.node.proofs.Whole.{received-as, own-row, call-refused, call-accepted}
+use Rattle.step.proofs.Said.{seen-as, received-as}
+use Rattle.node.proofs.Whole.{call-refused, call-accepted}
 use Rattle.node.proofs.calls.deliver.Statement.{statement}
 use Rattle.node.proofs.calls.deliver.Tie as tie
 
@@ -32,7 +33,7 @@ receive-requires c κs = let p = deliver-accepted _ _ _ _ _ _ (sym (c .before .b
 
 returns-2 : tie.Need-returns-2
 unfolding deliverOf
-returns-2 c = call-accepted _ _ (c .before .before .before .before .check-deliver .ensures) (c .before .before .enum-told .given .1) (received-as _ _ (c .receive .ensures) (own-row _ _ _ (c .before .row-at .ensures)))
+returns-2 c = call-accepted _ _ (c .before .before .before .before .check-deliver .ensures) (c .before .before .enum-told .given .1) (received-as _ (c .receive .ensures) (seen-as _ (c .before .row-at .ensures) refl) refl)
 
 pub deliver-spec : {M : Type 1} → statement M
 deliver-spec =

@@ -1,10 +1,11 @@
 -- `open` meets its contract. Assumes nothing.
-use mathlib.Core.Path.{sym, _∙_}
+use mathlib.Core.Path.{refl, sym, _∙_}
 use native.Mathlib.Omega.{arith}
 use borrow.Author.Needs.{needs}
 use Rattle.node.specs.Calls.{openOf}
 use Rattle.node.proofs.Refused.{open-accepted}
-use Rattle.node.proofs.Whole.{opened-as, own-row, call-refused, call-accepted}
+use Rattle.step.proofs.Said.{seen-as, opened-as}
+use Rattle.node.proofs.Whole.{call-refused, call-accepted}
 use Rattle.node.proofs.calls.open.Statement.{statement}
 use Rattle.node.proofs.calls.open.Tie as tie
 
@@ -32,7 +33,7 @@ open-round-requires c κs = search needs
 
 returns-2 : tie.Need-returns-2
 unfolding openOf
-returns-2 c = call-accepted _ _ (c .before .before .before .before .check-open .ensures) (c .before .before .enum-told .given .1) (opened-as _ (c .open-round .ensures) (own-row _ _ _ (c .before .row-at .ensures)))
+returns-2 c = call-accepted _ _ (c .before .before .before .before .check-open .ensures) (c .before .before .enum-told .given .1) (opened-as _ (c .open-round .ensures) (seen-as _ (c .before .row-at .ensures) refl))
 
 pub open-spec : {M : Type 1} → statement M
 open-spec =

@@ -3,7 +3,7 @@ use mathlib.Core.Path.{refl}
 use native.Mathlib.Omega.{arith}
 use borrow.Author.Needs.{needs}
 use Rattle.script.proofs.Triples.{good-bounds}
-use Rattle.script.specs.Steps.{stepNumber}
+use Rattle.lent.specs.Steps.{stepNumber}
 use Rattle.script.proofs.steps.step.Statement.{statement}
 use Rattle.script.proofs.steps.step.Tie as tie
 

@@ -1,4 +1,4 @@
-// What the programs print through: text, numbers, sets and refusals, on standard output.
+// What is printed through: text, numbers, sets and refusals, on standard output.
 use nodes::Node;
 use nodes::PLACES;
 use nodes::Set;

@@ -2,8 +2,8 @@
 use Prim.Native.Nat.{_≤_, _-_}
 use native.Mathlib.Omega.{arith}
 use borrow.Author.Needs.{needs}
-use Rattle.say.proofs.members.Statement.{statement}
-use Rattle.say.proofs.members.Tie as tie
+use Rattle.mornings.proofs.say.members.Statement.{statement}
+use Rattle.mornings.proofs.say.members.Tie as tie
 
 abbrev Inv-loop : tie.InvT-loop
 Inv-loop s k₀ t3 t4 k = k ≤ 64
