@@ -13,10 +13,11 @@ use borrow.Author.Tests.{lt-leb, leb-false, ltb-false, not-false}
 use Rattle.lemmas.specs.Lists.{anyOf}
 use Rattle.lemmas.proofs.Cases.{at-false}
 use Rattle.lemmas.proofs.Tests.{or-left-false, or-right-false}
-use Rattle.lemmas.proofs.Lists.{any-append, any-map, any-weaker}
+use Rattle.lemmas.proofs.Any.{any-append, any-map, any-weaker}
 use Rattle.nodes.specs.Sets.{Inside, noNode, below, membersFrom, members}
 use Rattle.nodes.specs.Words.{places}
-use Rattle.nodes.proofs.Bit.{in-below, inside-member}
+use Rattle.nodes.proofs.Operations.{in-below}
+use Rattle.nodes.proofs.Inside.{inside-member}
 use Rattle.nodes.proofs.Size.{members-in}
 use Rattle.records.specs.declared.messages.Kind.{Kind}
 use Rattle.records.specs.declared.messages.Kind.the-variants.{Notify, Grant, Ack, Done}

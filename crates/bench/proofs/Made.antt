@@ -10,12 +10,13 @@ use lib.Seq.{sets, getD-take, length-take-le}
 use borrow.Author.Tests.{lt-ltb, le-ltb}
 use Rattle.lemmas.specs.Lists.{anyBelow}
 use Rattle.lemmas.proofs.Cases.{at-true, at-false}
-use Rattle.lemmas.proofs.Lists.{AnyLeft, any-passed, any-found, any-ended, below-next, some-below}
+use Rattle.lemmas.proofs.Any.{AnyLeft, any-passed, any-found, any-ended, below-next, some-below}
 use Rattle.lemmas.proofs.Tests.{or-left-false}
 use Rattle.nodes.specs.declared.Round.{Round}
 use Rattle.nodes.specs.Sets.{Inside, below}
 use Rattle.nodes.specs.Words.{places}
-use Rattle.nodes.proofs.Bit.{in-below, inside-in, inside-trans}
+use Rattle.nodes.proofs.Operations.{in-below}
+use Rattle.nodes.proofs.Inside.{inside-in, inside-trans}
 use Rattle.records.specs.declared.messages.Kind.{Kind}
 use Rattle.records.specs.declared.messages.Message.{Message}
 use Rattle.records.specs.declared.records.Record.{Record}

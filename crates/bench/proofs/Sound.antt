@@ -9,7 +9,7 @@ use lib.ListN.{length, getD, take}
 use lib.Seq.{length-take-le, getD-take}
 use borrow.Author.Tests.{not-false, eqb-true, eq-eqb, ltb-false, le-ltb}
 use Rattle.lemmas.proofs.Tests.{or-left-false, or-right-false}
-use Rattle.lemmas.proofs.Lists.{none-at, none-below, all-below}
+use Rattle.lemmas.proofs.Any.{none-at, none-below, all-below}
 use Rattle.nodes.specs.Sets.{Inside, below}
 use Rattle.records.specs.Rounds.{lastRound}
 use Rattle.waits.specs.declared.numbers.Checked.{Checked}

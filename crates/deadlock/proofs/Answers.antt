@@ -9,7 +9,9 @@ use lib.ListN.{length, drop}
 use Rattle.lemmas.proofs.Tests.{not-both}
 use Rattle.nodes.specs.Sets.{In, Inside, has, meet, with, below, members, size}
 use Rattle.nodes.specs.Words.{places}
-use Rattle.nodes.proofs.Bit.{bit-empty, in-meet, in-with, in-below, has-in, in-has, inside-in}
+use Rattle.nodes.proofs.Bit.{bit-empty, has-in, in-has}
+use Rattle.nodes.proofs.Operations.{in-meet, in-with, in-below}
+use Rattle.nodes.proofs.Inside.{inside-in}
 use Rattle.nodes.proofs.Size.{members-in, members-ascending, size-members}
 use Rattle.waits.specs.declared.numbers.Checked.{Checked}
 use Rattle.waits.specs.declared.numbers.Checked.the-variants.{Accepted, Refused}

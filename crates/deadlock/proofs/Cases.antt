@@ -9,9 +9,9 @@ use lib.ListN.{length, getD, take}
 use lib.Seq.{take-suc}
 use borrow.Author.Tests.{leb-false, le-leb, lt-leb}
 use Rattle.lemmas.specs.Lists.{anyOf}
-use Rattle.lemmas.proofs.Lists.{none-at}
+use Rattle.lemmas.proofs.Any.{none-at}
 use Rattle.nodes.specs.Sets.{has, union, minus, with, below, setOf, noNode}
-use Rattle.nodes.proofs.Bit.{list-snoc}
+use Rattle.nodes.proofs.Gather.{list-snoc}
 use Rattle.waits.specs.declared.rows.Row.{Row}
 use Rattle.waits.specs.Waits.{Waits}
 use Rattle.waits.specs.Deadlocked.{outside}

@@ -8,7 +8,7 @@ use lib.ListN.{take}
 use lib.Seq.{take-at}
 use borrow.Author.Tests.{leb-true}
 use Rattle.lemmas.proofs.Tests.{not-true-false}
-use Rattle.lemmas.proofs.Lists.{any-some}
+use Rattle.lemmas.proofs.Any.{any-some}
 use Rattle.nodes.specs.Sets.{noNode}
 use Rattle.waits.specs.declared.numbers.Checked.the-variants.{Accepted}
 use Rattle.waits.specs.Deadlocked.{Deadlocked}

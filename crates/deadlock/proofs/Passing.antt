@@ -7,9 +7,12 @@ use Prim.Native.Nat.{ℕ, _<_}
 use native.Mathlib.Omega.{arith}
 use borrow.Author.Tests.{not-true}
 use Rattle.lemmas.proofs.Tests.{not-both, not-true-false, same-test, and-intro, and-left, and-right}
-use Rattle.lemmas.proofs.Lists.{any-some, some-any}
+use Rattle.lemmas.proofs.Any.{any-some, some-any}
 use Rattle.nodes.specs.Sets.{bit, In, Inside, has, minus, below, members, setOf}
-use Rattle.nodes.proofs.Bit.{empty-inside, in-or-out, in-below, in-minus, has-in, in-has, inside-member, with-inside, list-in, in-list, same-list}
+use Rattle.nodes.proofs.Bit.{in-or-out, has-in, in-has}
+use Rattle.nodes.proofs.Operations.{in-below, in-minus}
+use Rattle.nodes.proofs.Inside.{empty-inside, inside-member, with-inside}
+use Rattle.nodes.proofs.Gather.{list-in, in-list, same-list}
 use Rattle.nodes.proofs.Size.{members-in}
 use Rattle.waits.specs.Waits.{Waits, Lawful}
 use Rattle.waits.specs.Deadlocked.{Reduction, Deadlocked, Reachable, outside, passes}

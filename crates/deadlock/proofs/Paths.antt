@@ -6,7 +6,9 @@ use Prim.Native.Nat.{ℕ, _<_}
 use native.Mathlib.Nat.{le-refl}
 use native.Mathlib.Omega.{arith}
 use Rattle.nodes.specs.Sets.{bit, In, Inside, has, union, below}
-use Rattle.nodes.proofs.Bit.{bit-union, in-union, has-in, in-has, inside-in, inside-member, inside-trans}
+use Rattle.nodes.proofs.Bit.{has-in, in-has}
+use Rattle.nodes.proofs.Operations.{bit-union, in-union}
+use Rattle.nodes.proofs.Inside.{inside-in, inside-member, inside-trans}
 use Rattle.waits.specs.Waits.{Waits, Lawful}
 use Rattle.waits.specs.Deadlocked.{Path, Reachable}
 use Rattle.waits.proofs.In.{out-inside}

@@ -9,7 +9,10 @@ use native.Mathlib.Nat.{le-refl}
 use native.Mathlib.Omega.{arith}
 use Rattle.lemmas.proofs.Tests.{not-both, and-right}
 use Rattle.nodes.specs.Sets.{bit, In, Inside, has, with, below, keep, setOf}
-use Rattle.nodes.proofs.Bit.{empty-inside, bit-with-same, has-in, in-or-out, in-below, in-minus, inside-member, inside-both, same-members, with-grows, with-inside, keep-grows, list-in, in-list}
+use Rattle.nodes.proofs.Bit.{has-in, in-or-out}
+use Rattle.nodes.proofs.Operations.{bit-with-same, in-below, in-minus}
+use Rattle.nodes.proofs.Inside.{empty-inside, inside-member, inside-both, same-members, with-grows, with-inside, keep-grows}
+use Rattle.nodes.proofs.Gather.{list-in, in-list}
 use Rattle.waits.specs.Waits.{Waits, Lawful}
 use Rattle.waits.specs.Deadlocked.{Reduction, Deadlocked}
 use Rattle.deadlock.specs.Sweeps.{freeing, freed, stuck}

@@ -7,7 +7,7 @@ use native.Mathlib.Numerals.{add-one}
 use native.Mathlib.Omega.{arith}
 use native.Mathlib.Decide.{decLt}
 use Rattle.nodes.specs.Sets.{bit, Inside, minus, below, size}
-use Rattle.nodes.proofs.Bit.{inside-both, inside-lt, inside-trans, minus-none}
+use Rattle.nodes.proofs.Inside.{inside-both, inside-lt, inside-trans, minus-none}
 use Rattle.nodes.proofs.Size.{size-le, size-same}
 use Rattle.deadlock.specs.Sweeps.{sweep, sweeps}
 

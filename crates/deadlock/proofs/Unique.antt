@@ -4,11 +4,11 @@ use mathlib.Core.Logic.{_↔_}
 use mathlib.Core.List.{List, _++_}
 use Prim.Native.Nat.{ℕ}
 use lib.ListN.{length, drop}
-use Rattle.lemmas.proofs.Lists.{ascending-unique}
+use Rattle.lemmas.proofs.Ascending.{ascending-unique}
 use Rattle.nodes.specs.declared.Set.{Set}
 use Rattle.nodes.specs.Sets.{In}
 use Rattle.nodes.specs.Words.{num}
-use Rattle.nodes.proofs.Bit.{same-members}
+use Rattle.nodes.proofs.Inside.{same-members}
 use Rattle.nodes.proofs.Words.{same-set}
 use Rattle.waits.specs.declared.numbers.Refusal.{Refusal}
 use Rattle.waits.specs.declared.numbers.Checked.{Checked}

@@ -7,7 +7,7 @@ use lib.ListN.{getD, length}
 use borrow.Author.Tests.{eq-eqb, lt-leb}
 use Rattle.lemmas.proofs.Tests.{or-left-false}
 use Rattle.nodes.specs.Sets.{noNode, below}
-use Rattle.nodes.proofs.Bit.{of-inside}
+use Rattle.nodes.proofs.Inside.{of-inside}
 use Rattle.records.specs.declared.messages.Message.{Message}
 use Rattle.records.specs.Rounds.{lastRound, cannotOpen}
 use Rattle.records.specs.Messages.{letterOf, strangeMessage}

@@ -7,10 +7,10 @@ use Prim.Native.Nat.{ℕ, _≤_}
 use lib.Dec.{eqb}
 use borrow.Author.Tests.{not-true, eqb-false, ne-eqb, leb-true, le-leb}
 use Rattle.lemmas.proofs.Tests.{same-test, and-intro, and-left, and-right}
-use Rattle.lemmas.proofs.Lists.{any-some, some-any}
+use Rattle.lemmas.proofs.Any.{any-some, some-any}
 use Rattle.nodes.specs.Sets.{Inside, noNode, meet, members, size}
 use Rattle.nodes.specs.Words.{num}
-use Rattle.nodes.proofs.Bit.{inside-of, of-inside}
+use Rattle.nodes.proofs.Inside.{inside-of, of-inside}
 use Rattle.waits.specs.declared.numbers.Checked.{Checked}
 use Rattle.waits.specs.declared.numbers.Checked.the-variants.{Accepted, Refused}
 use Rattle.waits.specs.Deadlocked.{Deadlocked, outside, passes}

@@ -7,7 +7,9 @@ use Prim.Native.Nat.{ℕ, _+_, _*_, _<_}
 use lib.ListN.{length}
 use Rattle.lemmas.proofs.Tests.{same-test}
 use Rattle.nodes.specs.Sets.{In, has, with, inside, members, gather}
-use Rattle.nodes.proofs.Bit.{has-in, in-has, inside-of, inside-member, gather-in}
+use Rattle.nodes.proofs.Bit.{has-in, in-has}
+use Rattle.nodes.proofs.Inside.{inside-of, inside-member}
+use Rattle.nodes.proofs.Gather.{gather-in}
 use Rattle.nodes.proofs.Size.{members-in}
 use Rattle.records.specs.Messages.{Letter}
 use Rattle.records.specs.Records.{free}

@@ -11,7 +11,8 @@ use lib.Seq.{sets}
 use borrow.Author.Tests.{leb-false, ltb-true, ltb-false}
 use Rattle.lemmas.proofs.Stores.{sets-before}
 use Rattle.nodes.specs.Sets.{noNode}
-use Rattle.nodes.proofs.Bit.{in-below, inside-member}
+use Rattle.nodes.proofs.Operations.{in-below}
+use Rattle.nodes.proofs.Inside.{inside-member}
 use Rattle.records.specs.Rounds.{cannotOpen}
 use Rattle.records.specs.Messages.{Letter}
 use Rattle.records.specs.Records.{State}

@@ -11,7 +11,9 @@ use Rattle.lemmas.specs.Lists.{those}
 use Rattle.lemmas.proofs.Those.{as-many}
 use Rattle.lemmas.proofs.Tests.{not-both, not-true-false, and-intro, and-left, and-right}
 use Rattle.nodes.specs.Sets.{In, minus, members, gather}
-use Rattle.nodes.proofs.Bit.{in-minus, same-members, in-gather, gather-in}
+use Rattle.nodes.proofs.Operations.{in-minus}
+use Rattle.nodes.proofs.Inside.{same-members}
+use Rattle.nodes.proofs.Gather.{in-gather, gather-in}
 use Rattle.records.specs.Messages.{Letter}
 use Rattle.records.specs.Records.{State, called, free, inRound}
 use Rattle.waits.specs.Rows.{waitsOf}

@@ -3,15 +3,10 @@ use mathlib.Core.Path.{_≡_, refl, sym, ap, _∙_, subst}
 use mathlib.Core.Logic.{⊎-elim, _↔_}
 use mathlib.Core.List.{List, [], _∷_, _++_, map, List·Memᴰ, List·Memᴰ·append-cases}
 use mathlib.Core.List.List·Memᴰ.{List·Memᴰ·head as here, List·Memᴰ·tail as there}
-use Prim.Native.Nat.{ℕ, suc, _≤_}
+use Prim.Native.Nat.{suc, _≤_}
 use native.Mathlib.Omega.{arith}
 use lib.ListN.{length}
-use Rattle.lemmas.specs.Lists.{Ascending, Once}
-
--- an ascending list
-pub ascending-once : (l : List ℕ) → Ascending l → Once l
-ascending-once [] a = tt
-ascending-once (x ∷ l) a = (λ m. let h = a .0 x m in absurd (omega arith), ascending-once l (a .1))
+use Rattle.lemmas.specs.Lists.{Once}
 
 module _ {A : Type 0} where
   -- two lists with nothing in common

@@ -5,13 +5,13 @@ use mathlib.Core.List.List·Memᴰ.{List·Memᴰ·head as here, List·Memᴰ·ta
 use Prim.Native.Nat.{ℕ, zero, suc}
 use native.Mathlib.Nat.{suc-inj, suc-ne-zero}
 use native.Mathlib.Omega.{arith}
-use Rattle.lemmas.proofs.Lists.{ascending-unique}
+use Rattle.lemmas.proofs.Ascending.{ascending-unique}
 use Rattle.nodes.specs.declared.Node.{Node}
 use Rattle.nodes.specs.declared.Smallest.{Smallest}
 use Rattle.nodes.specs.declared.Smallest.the-variants.{At, Nothing}
 use Rattle.nodes.specs.Sets.{single, minus, members}
 use Rattle.nodes.specs.Words.{firstOf}
-use Rattle.nodes.proofs.Bit.{in-minus, bit-single-same, bit-single-other}
+use Rattle.nodes.proofs.Operations.{in-minus, bit-single-same, bit-single-other}
 use Rattle.nodes.proofs.Size.{members-in, members-ascending}
 
 abbrev number : Smallest → ℕ

@@ -1,5 +1,8 @@
 -- The laws of sets, each shown once for every width.
 pub mod Bit
+pub mod Operations
+pub mod Inside
+pub mod Gather
 pub mod Size
 pub mod Walk
 pub mod Words

@@ -15,10 +15,11 @@ use lib.Pow.{pow-pos, shr-lt, mod-pow-add}
 use lib.Bits.{bitAnd, bitOr, block-half, block-odd, and-step, or-step, and-zero-l, or-zero-l}
 use lib.ListN.{length, length-append}
 use Rattle.lemmas.specs.Lists.{Ascending, Once}
-use Rattle.lemmas.proofs.Lists.{ascending-snoc}
-use Rattle.lemmas.proofs.Once.{ascending-once}
+use Rattle.lemmas.proofs.Ascending.{ascending-snoc, ascending-once}
 use Rattle.nodes.specs.Sets.{bit, In, has, union, meet, minus, Inside, only, membersFrom, members, size}
-use Rattle.nodes.proofs.Bit.{bit-zero, bit-suc, bit-le, in-lt, has-bit, has-in, in-has, pow-gt, bit-union, bit-meet, bit-minus, empty-same, same, inside-both, minus-none}
+use Rattle.nodes.proofs.Bit.{bit-zero, bit-suc, bit-le, in-lt, has-bit, has-in, in-has, pow-gt, empty-same, same}
+use Rattle.nodes.proofs.Operations.{bit-union, bit-meet, bit-minus}
+use Rattle.nodes.proofs.Inside.{inside-both, minus-none}
 
 -- ---- the members from k on, however large the bound of the recursion
 more : (f k s : ℕ) → s ≤ f → membersFrom (suc f) k s ≡ membersFrom f k s

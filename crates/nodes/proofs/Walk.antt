@@ -14,7 +14,8 @@ use borrow.Author.Tests.{eqb-true}
 use Rattle.nodes.specs.declared.Smallest.the-variants.{At, Nothing}
 use Rattle.nodes.specs.Sets.{bit, has, inside, Inside, below, only, members, size}
 use Rattle.nodes.specs.Words.{firstOf}
-use Rattle.nodes.proofs.Bit.{bit-above, of-inside, empty-inside, inside-lt}
+use Rattle.nodes.proofs.Bit.{bit-above}
+use Rattle.nodes.proofs.Inside.{of-inside, empty-inside, inside-lt}
 use Rattle.nodes.proofs.Size.{from, from-none, from-step, from-cat, members-from, members-suc, members-none, members-all, size-members, size-empty, size-below}
 
 -- every place walked, and none past the width

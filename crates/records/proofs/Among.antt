@@ -7,7 +7,8 @@ use borrow.Author.Tests.{ltb-false, le-ltb, lt-leb, not-false, leb-false}
 use Rattle.lemmas.proofs.Cases.{both-branches}
 use Rattle.lemmas.proofs.Tests.{or-left-false, or-right-false}
 use Rattle.nodes.specs.Sets.{Inside, noNode, union, with, below}
-use Rattle.nodes.proofs.Bit.{in-below, inside-of, of-inside, inside-union, inside-trans, union-left, union-right, single-below, with-inside, empty-inside}
+use Rattle.nodes.proofs.Operations.{in-below}
+use Rattle.nodes.proofs.Inside.{inside-of, of-inside, inside-union, inside-trans, union-left, union-right, single-below, with-inside, empty-inside}
 use Rattle.records.specs.declared.causes.Why.{Why}
 use Rattle.records.specs.declared.causes.Why.the-variants.{Not, Itself, By}
 use Rattle.records.specs.declared.messages.Kind.{Kind}

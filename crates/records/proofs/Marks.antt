@@ -3,7 +3,7 @@ use mathlib.Core.Path.{_≡_, refl, sym, subst}
 use mathlib.Core.Logic.{_⊎_, inl, inr, ⊎-elim, _↔_}
 use Prim.Native.Nat.{ℕ}
 use Rattle.nodes.specs.Sets.{In, with}
-use Rattle.nodes.proofs.Bit.{in-with}
+use Rattle.nodes.proofs.Operations.{in-with}
 use Rattle.records.specs.declared.messages.Kind.{Kind}
 use Rattle.records.specs.declared.messages.Kind.the-variants.{Notify, Grant, Ack, Done}
 use Rattle.records.specs.Records.{State, blankOf, hadOf, markOf}

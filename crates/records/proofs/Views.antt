@@ -3,7 +3,7 @@ use mathlib.Core.Path.{_≡_, refl, sym, ap, _∙_}
 use Prim.Native.Nat.{ℕ, zero, suc, _+_, _-_}
 use native.Mathlib.Omega.{arith}
 use Rattle.nodes.specs.Sets.{union, with, single}
-use Rattle.nodes.proofs.Bit.{with-empty}
+use Rattle.nodes.proofs.Operations.{with-empty}
 use Rattle.records.specs.declared.causes.Why.{Why}
 use Rattle.records.specs.declared.causes.Why.the-variants.{Not, By}
 use Rattle.records.specs.declared.messages.Kind.{Kind}

@@ -6,7 +6,7 @@ use mathlib.Core.List.{List, [], _∷_, List·Memᴰ}
 use mathlib.Core.List.List·Memᴰ.{List·Memᴰ·head as here, List·Memᴰ·tail as there}
 use Prim.Native.Nat.{ℕ, _<_}
 use Rattle.nodes.specs.Sets.{In}
-use Rattle.nodes.proofs.Bit.{none-in}
+use Rattle.nodes.proofs.Inside.{none-in}
 use Rattle.records.specs.declared.messages.Kind.{Kind}
 use Rattle.records.specs.Causes.{byItself}
 use Rattle.records.specs.Messages.{Letter}

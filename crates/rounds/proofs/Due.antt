@@ -12,11 +12,12 @@ use lib.Dec.{eqb}
 use lib.ListN.{length, length-append, length-map}
 use borrow.Author.Tests.{eq-eqb}
 use Rattle.lemmas.specs.Lists.{anyOf, total, Once}
-use Rattle.lemmas.proofs.Lists.{some-any}
+use Rattle.lemmas.proofs.Any.{some-any}
 use Rattle.lemmas.proofs.Once.{mapped-from, mapped, once-map, no-longer}
 use Rattle.lemmas.proofs.Each.{each-from, each-in, each-length, once-each}
 use Rattle.nodes.specs.Sets.{In, Inside, below, members, size}
-use Rattle.nodes.proofs.Bit.{in-below, inside-member}
+use Rattle.nodes.proofs.Operations.{in-below}
+use Rattle.nodes.proofs.Inside.{inside-member}
 use Rattle.nodes.proofs.Size.{members-in, members-once, size-members}
 use Rattle.records.specs.declared.messages.Kind.{Kind}
 use Rattle.records.specs.declared.messages.Kind.the-variants.{Notify, Grant, Ack, Done}

@@ -7,7 +7,8 @@ use mathlib.Core.List.List·Memᴰ.{List·Memᴰ·head as here, List·Memᴰ·ta
 use Prim.Native.Nat.{ℕ, _<_}
 use Rattle.lemmas.proofs.Tests.{not-both, true-or-false, not-true-false}
 use Rattle.nodes.specs.Sets.{In, setOf}
-use Rattle.nodes.proofs.Bit.{inside-member, none-in, in-list}
+use Rattle.nodes.proofs.Inside.{inside-member, none-in}
+use Rattle.nodes.proofs.Gather.{in-list}
 use Rattle.records.specs.declared.messages.Kind.{Kind}
 use Rattle.records.specs.declared.messages.Kind.the-variants.{Notify, Grant, Ack, Done}
 use Rattle.records.specs.Causes.{byItself, senderOf}

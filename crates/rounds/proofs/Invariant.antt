@@ -7,7 +7,8 @@ use mathlib.Core.List.List·Memᴰ.{List·Memᴰ·head as here, List·Memᴰ·ta
 use Prim.Native.Nat.{ℕ, _<_}
 use Rattle.lemmas.proofs.Tests.{true-or-false}
 use Rattle.nodes.specs.Sets.{In, setOf}
-use Rattle.nodes.proofs.Bit.{inside-member, empty-inside, list-in}
+use Rattle.nodes.proofs.Inside.{inside-member, empty-inside}
+use Rattle.nodes.proofs.Gather.{list-in}
 use Rattle.records.specs.declared.messages.Kind.{Kind}
 use Rattle.records.specs.declared.messages.Kind.the-variants.{Notify, Grant}
 use Rattle.records.specs.Causes.{byItself, senderOf}

@@ -7,7 +7,8 @@ use Prim.Native.Nat.{ℕ}
 use borrow.Author.Tests.{not-true}
 use Rattle.lemmas.proofs.Tests.{not-both, true-or-false, and-intro, and-left, and-right, or-cases, or-intro-left, or-intro-right}
 use Rattle.nodes.specs.Sets.{In, inside}
-use Rattle.nodes.proofs.Bit.{bit-single-same, in-union, in-meet, in-minus, inside-of, of-inside, inside-in, inside-member, none-in}
+use Rattle.nodes.proofs.Operations.{bit-single-same, in-union, in-meet, in-minus}
+use Rattle.nodes.proofs.Inside.{inside-of, of-inside, inside-in, inside-member, none-in}
 use Rattle.records.specs.declared.causes.Why.{Why}
 use Rattle.records.specs.declared.causes.Why.the-variants.{Not, Itself, By}
 use Rattle.records.specs.declared.messages.Kind.{Kind}

@@ -4,7 +4,8 @@ use mathlib.Core.Bool.{true, false, not, _||_}
 use Prim.Native.Nat.{ℕ, _<_}
 use borrow.Author.Tests.{eq-eqb}
 use Rattle.nodes.specs.Sets.{In}
-use Rattle.nodes.proofs.Bit.{in-has, inside-member}
+use Rattle.nodes.proofs.Bit.{in-has}
+use Rattle.nodes.proofs.Inside.{inside-member}
 use Rattle.records.specs.declared.messages.Kind.{Kind}
 use Rattle.records.specs.declared.messages.Kind.the-variants.{Notify, Grant, Ack, Done}
 use Rattle.records.specs.Messages.{Letter}

@@ -3,7 +3,7 @@ use mathlib.Core.Path.{refl, sym}
 use mathlib.Core.Bool.{true≢false}
 use mathlib.Core.List.{[]}
 use Prim.Native.Nat.{ℕ, _<_}
-use Rattle.nodes.proofs.Bit.{none-in}
+use Rattle.nodes.proofs.Inside.{none-in}
 use Rattle.records.specs.declared.messages.Kind.{Kind}
 use Rattle.records.specs.declared.messages.Kind.the-variants.{Notify, Grant, Ack, Done}
 use Rattle.records.specs.Records.{blankOf}

@@ -6,7 +6,9 @@ use mathlib.Core.List.{List·Memᴰ}
 use Prim.Native.Nat.{ℕ, _<_}
 use Rattle.lemmas.proofs.Tests.{not-both, not-true-false}
 use Rattle.nodes.specs.Sets.{In, Inside, below}
-use Rattle.nodes.proofs.Bit.{in-minus, in-below, inside-in, gather-in, in-gather}
+use Rattle.nodes.proofs.Operations.{in-minus, in-below}
+use Rattle.nodes.proofs.Inside.{inside-in}
+use Rattle.nodes.proofs.Gather.{gather-in, in-gather}
 use Rattle.nodes.proofs.Size.{members-in}
 use Rattle.records.specs.Records.{called, free}
 use Rattle.waits.specs.Waits.{Waits}

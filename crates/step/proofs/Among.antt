@@ -5,7 +5,7 @@ use mathlib.Core.Logic.{_⊎_, inl, inr}
 use Prim.Native.Nat.{ℕ, _<_}
 use Rattle.lemmas.proofs.Cases.{both-branches}
 use Rattle.nodes.specs.Sets.{Inside, below}
-use Rattle.nodes.proofs.Bit.{single-below, inside-union, empty-inside}
+use Rattle.nodes.proofs.Inside.{single-below, inside-union, empty-inside}
 use Rattle.records.specs.declared.causes.Why.{Why}
 use Rattle.records.specs.declared.causes.Why.the-variants.{Itself, By}
 use Rattle.records.specs.declared.messages.Kind.{Kind}

@@ -5,7 +5,7 @@ use Prim.Native.Nat.{ℕ}
 use lib.Dec.{eqb}
 use borrow.Author.Tests.{eq-eqb, ne-eqb}
 use Rattle.nodes.specs.Sets.{inside}
-use Rattle.nodes.proofs.Bit.{inside-none}
+use Rattle.nodes.proofs.Inside.{inside-none}
 use Rattle.records.specs.declared.causes.Why.the-variants.{Itself}
 use Rattle.records.specs.Records.{blankOf}
 use Rattle.step.specs.declared.answers.Verdict.{Verdict}

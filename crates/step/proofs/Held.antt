@@ -4,7 +4,8 @@ use mathlib.Core.Bool.{Bool, true, false, cond}
 use Prim.Native.Nat.{ℕ, _+_}
 use native.Mathlib.Omega.{arith}
 use Rattle.nodes.specs.Sets.{bit, Inside, union, meet, minus, single, with}
-use Rattle.nodes.proofs.Bit.{bit-le, same, bit-empty, empty-same, bit-union, bit-meet, bit-minus, bit-with, single-apart}
+use Rattle.nodes.proofs.Bit.{bit-le, same, bit-empty, empty-same}
+use Rattle.nodes.proofs.Operations.{bit-union, bit-meet, bit-minus, bit-with, single-apart}
 use Rattle.step.specs.Step.{newly}
 use Rattle.step.specs.Sent.{answered, Adds}
 

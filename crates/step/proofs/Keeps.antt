@@ -7,7 +7,7 @@ use Prim.Native.Nat.{ℕ}
 use native.Mathlib.Nat.{le-refl}
 use Rattle.lemmas.proofs.Tests.{not-both, and-intro, and-left, and-right, or-intro-right, or-intro-left, or-cases}
 use Rattle.nodes.specs.Sets.{bit, In, Inside, union, minus, with, inside}
-use Rattle.nodes.proofs.Bit.{inside-trans, inside-more, with-grows, single-inside, with-inside, empty-inside, none-in}
+use Rattle.nodes.proofs.Inside.{inside-trans, inside-more, with-grows, single-inside, with-inside, empty-inside, none-in}
 use Rattle.records.specs.declared.causes.Why.{Why}
 use Rattle.records.specs.declared.causes.Why.the-variants.{Not, Itself, By}
 use Rattle.records.specs.declared.messages.Kind.{Kind}

@@ -9,7 +9,8 @@ use borrow.Author.Tests.{not-true, not-false}
 use Rattle.lemmas.proofs.Cases.{both-branches}
 use Rattle.lemmas.proofs.Tests.{not-both, true-or-false, and-left, and-right, or-left-false, or-right-false}
 use Rattle.nodes.specs.Sets.{bit, In, Inside, has, union, minus, single, with}
-use Rattle.nodes.proofs.Bit.{has-in, has-out, single-inside, with-inside, empty-inside}
+use Rattle.nodes.proofs.Bit.{has-in, has-out}
+use Rattle.nodes.proofs.Inside.{single-inside, with-inside, empty-inside}
 use Rattle.records.specs.declared.causes.Why.the-variants.{Itself, By}
 use Rattle.records.specs.declared.messages.Kind.{Kind}
 use Rattle.records.specs.declared.messages.Kind.the-variants.{Notify, Grant, Ack, Done}

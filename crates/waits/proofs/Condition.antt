@@ -10,10 +10,11 @@ use lib.Dec.{leb, eqb}
 use borrow.Author.Tests.{leb-true, le-leb}
 use Rattle.lemmas.specs.Lists.{anyOf}
 use Rattle.lemmas.proofs.Tests.{cond-mono, and-intro, and-left, and-right, same-test, not-true-false, not-both}
-use Rattle.lemmas.proofs.Lists.{any-some, some-any}
+use Rattle.lemmas.proofs.Any.{any-some, some-any}
 use Rattle.nodes.specs.Sets.{bit, In, union, meet, inside, size}
 use Rattle.nodes.specs.Words.{num}
-use Rattle.nodes.proofs.Bit.{in-union, in-meet, inside-in, inside-of, of-inside, inside-member, inside-empty}
+use Rattle.nodes.proofs.Operations.{in-union, in-meet}
+use Rattle.nodes.proofs.Inside.{inside-in, inside-of, of-inside, inside-member, inside-empty}
 use Rattle.nodes.proofs.Size.{size-mono}
 use Rattle.waits.specs.declared.rows.Row.{Row}
 use Rattle.waits.specs.Rows.{setsOf, laterOf, outOf, liesIn, holdsOf}

@@ -2,7 +2,10 @@
 use mathlib.Core.Logic.{_↔_}
 use Prim.Native.Nat.{ℕ, _<_}
 use Rattle.nodes.specs.Sets.{In, Inside, has, below}
-use Rattle.nodes.proofs.Bit.{has-in, in-has, in-below, inside-in, gather-in, in-gather}
+use Rattle.nodes.proofs.Bit.{has-in, in-has}
+use Rattle.nodes.proofs.Operations.{in-below}
+use Rattle.nodes.proofs.Inside.{inside-in}
+use Rattle.nodes.proofs.Gather.{gather-in, in-gather}
 use Rattle.waits.specs.Waits.{Waits, Lawful, inOf}
 
 pub in-of : (w : Waits) (j i : ℕ) → In i (inOf w j) ↔ ((i < w .nodes) × In j (w .out i))

@@ -9,10 +9,11 @@ use lib.Dec.{leb, eqb}
 use borrow.Author.Tests.{leb-true, lt-leb, ltb-false, eqb-true, eqb-false, eq-eqb, not-false}
 use Rattle.lemmas.proofs.Cases.{of-true, and-rest}
 use Rattle.lemmas.proofs.Tests.{and-left, and-right, or-left-false, not-both, not-true-false}
-use Rattle.lemmas.proofs.Lists.{any-some}
+use Rattle.lemmas.proofs.Any.{any-some}
 use Rattle.nodes.specs.Sets.{In, Inside, meet, size}
 use Rattle.nodes.specs.Words.{num}
-use Rattle.nodes.proofs.Bit.{in-below, in-meet, inside-of, inside-in, inside-member}
+use Rattle.nodes.proofs.Operations.{in-below, in-meet}
+use Rattle.nodes.proofs.Inside.{inside-of, inside-in, inside-member}
 use Rattle.nodes.proofs.Size.{size-mono, size-empty}
 use Rattle.waits.specs.declared.rows.Row.{Row}
 use Rattle.waits.specs.declared.numbers.Checked.the-variants.{Accepted}

@@ -4,7 +4,9 @@ use mathlib.Core.Bool.{true}
 use Prim.Native.Nat.{ℕ, _<_}
 use native.Mathlib.Omega.{arith}
 use Rattle.nodes.specs.Sets.{In, meet}
-use Rattle.nodes.proofs.Bit.{bit-le, bit-meet, in-meet, inside-in}
+use Rattle.nodes.proofs.Bit.{bit-le}
+use Rattle.nodes.proofs.Operations.{bit-meet, in-meet}
+use Rattle.nodes.proofs.Inside.{inside-in}
 use Rattle.waits.specs.Waits.{Waits, Lawful}
 
 pub still-holds : (w : Waits) → Lawful w → (i g h : ℕ) → i < w .nodes → ((j : ℕ) → In j (w .out i) → In j g → In j h) → w .holds i g ≡ true → w .holds i h ≡ true

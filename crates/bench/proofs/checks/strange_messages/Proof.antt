@@ -5,7 +5,7 @@ use lib.ListN.{take}
 use borrow.Author.Needs.{needs}
 use Rattle.bench.proofs.Made.{message-found, message-passed, messages-passed}
 use Rattle.bench.specs.Strange.{strangeMessageOn}
-use Rattle.lemmas.proofs.Lists.{AnyLeft}
+use Rattle.lemmas.proofs.Any.{AnyLeft}
 use Rattle.lent.specs.Coded.{messageOf}
 use Rattle.bench.proofs.checks.strange_messages.Statement.{statement}
 use Rattle.bench.proofs.checks.strange_messages.Tie as tie

@@ -4,7 +4,7 @@ use Prim.Native.Nat.{_-_}
 use native.Mathlib.Omega.{arith}
 use lib.ListN.{length}
 use borrow.Author.Needs.{needs}
-use Rattle.lemmas.proofs.Lists.{AnyLeft, any-passed, any-found, any-ended}
+use Rattle.lemmas.proofs.Any.{AnyLeft, any-passed, any-found, any-ended}
 use Rattle.nodes.specs.Words.{num}
 use Rattle.waits.specs.Rows.{rowAt, holdsOf}
 use Rattle.deadlock.proofs.Cases.{entry-node, met-named}

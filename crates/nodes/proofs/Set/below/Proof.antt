@@ -6,7 +6,7 @@ use lib.Pow.{pow-pos}
 use borrow.Author.Needs.{needs}
 use Rattle.nodes.specs.Sets.{below}
 use Rattle.nodes.specs.Words.{num}
-use Rattle.nodes.proofs.Bit.{shl-one}
+use Rattle.nodes.proofs.Operations.{shl-one}
 use Rattle.nodes.proofs.Set.below.Statement.{statement}
 use Rattle.nodes.proofs.Set.below.Tie as tie
 

@@ -8,7 +8,7 @@ use Rattle.lemmas.proofs.Cases.{flag}
 use Rattle.nodes.specs.Words.{num}
 use Rattle.nodes.specs.Sets.{bit}
 use Rattle.nodes.proofs.Walk.{inside-all, none-inside}
-use Rattle.nodes.proofs.Bit.{not-inside}
+use Rattle.nodes.proofs.Inside.{not-inside}
 use Rattle.nodes.proofs.Set.inside.Statement.{statement}
 use Rattle.nodes.proofs.Set.inside.Tie as tie
 

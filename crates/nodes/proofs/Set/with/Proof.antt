@@ -4,7 +4,7 @@ use lib.Bits.{bitOr}
 use borrow.Author.Needs.{needs}
 use Rattle.nodes.specs.Sets.{union, single, with}
 use Rattle.nodes.specs.Words.{num}
-use Rattle.nodes.proofs.Bit.{shl-one}
+use Rattle.nodes.proofs.Operations.{shl-one}
 use Rattle.nodes.proofs.Set.with.Statement.{statement}
 use Rattle.nodes.proofs.Set.with.Tie as tie
 

@@ -4,7 +4,7 @@ use mathlib.Core.Path.{_≡_, ap, sym, _∙_}
 use Prim.Native.Nat.{_≤_, _-_}
 use native.Mathlib.Omega.{arith}
 use borrow.Author.Needs.{needs}
-use Rattle.nodes.proofs.Bit.{gather-none, gather-yes, gather-no}
+use Rattle.nodes.proofs.Gather.{gather-none, gather-yes, gather-no}
 use Rattle.nodes.specs.Words.{num}
 use Rattle.nodes.specs.Sets.{has, gather}
 use Rattle.waits.specs.Rows.{rowAt, outOf}

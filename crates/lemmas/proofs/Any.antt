@@ -1,8 +1,8 @@
--- Lists of numbers and the numbers below one: a test of some of them, and order. Assumes nothing.
+-- A test of some number in a list, and of some number below one. Assumes nothing.
 use mathlib.Core.Path.{_≡_, refl, sym, ap, ap₂, _∙_}
 use mathlib.Core.Bool.{Bool, true, false, _||_, false≢true}
-use mathlib.Core.Logic.{⊎-elim, _↔_}
-use mathlib.Core.List.{List, [], _∷_, _++_, map, List·Memᴰ, List·Memᴰ·append-cases, List·Memᴰ·eq-of-singleton}
+use mathlib.Core.Logic.{⊎-elim}
+use mathlib.Core.List.{List, [], _∷_, _++_, map, List·Memᴰ}
 use mathlib.Core.List.List·Memᴰ.{List·Memᴰ·head as here, List·Memᴰ·tail as there}
 use Prim.Native.Nat.{ℕ, zero, suc, _+_, _≤_, _<_}
 use native.Mathlib.Nat.{not-suc-le-zero, le-of-suc-le-suc, eq-or-lt-of-le}
@@ -10,7 +10,7 @@ use native.Mathlib.Numerals.{add-one}
 use native.Mathlib.Omega.{arith}
 use lib.ListN.{length, getD, drop, drop-of-length-le}
 use lib.Seq.{drop-cons}
-use Rattle.lemmas.specs.Lists.{anyOf, anyBelow, Ascending}
+use Rattle.lemmas.specs.Lists.{anyOf, anyBelow}
 use Rattle.lemmas.proofs.Tests.{not-both, or-left-false, or-right-false, or-cases, or-intro-left, or-intro-right}
 
 -- ---- a test of some member
@@ -85,34 +85,3 @@ some-below p n i h e = sym (not-false-true (anyBelow p n) (λ f. not-both e (non
     not-false-true : (b : Bool) → (b ≡ false → ⊥) → b ≡ true
     not-false-true true f = refl
     not-false-true false f = absurd (f refl)
-
--- ---- order
-
--- one number more at the end, above all the others
-pub ascending-snoc : (l : List ℕ) (k : ℕ) → ((b : ℕ) → List·Memᴰ b l → b < k) → Ascending l → Ascending (l ++ k ∷ [])
-ascending-snoc [] k h a = (λ b m. absurd (elim m [ ]), tt)
-ascending-snoc (x ∷ l) k h a = (
-  λ b m. ⊎-elim (λ (n : List·Memᴰ b l). a .0 b n) (λ (n : List·Memᴰ b (k ∷ [])). let e = List·Memᴰ·eq-of-singleton n in let q = h x (here refl) in omega arith) (List·Memᴰ·append-cases l m),
-  ascending-snoc l k (λ b m. h b (there m)) (a .1),
-)
-
--- an ascending list is determined by its members
-pub ascending-unique : (l m : List ℕ) → Ascending l → Ascending m → ((x : ℕ) → List·Memᴰ x l ↔ List·Memᴰ x m) → l ≡ m
-ascending-unique [] [] a b f = refl
-ascending-unique [] (y ∷ m) a b f = absurd (elim (f y .1 (here refl)) [ ])
-ascending-unique (x ∷ l) [] a b f = absurd (elim (f x .0 (here refl)) [ ])
-ascending-unique (x ∷ l) (y ∷ m) a b f =
-    let q : x ≡ y = first (f x .0 (here refl)) (f y .1 (here refl)) in
-    ap₂ (λ (z : ℕ) (r : List ℕ). z ∷ r) q (ascending-unique l m (a .1) (b .1) (λ z. (
-      λ i. rest z (λ e. let h = a .0 z i in omega arith) (f z .0 (there i)),
-      λ i. rest z (λ e. let h = b .0 z i in omega arith) (f z .1 (there i)),
-    )))
-  where
-    first : List·Memᴰ x (y ∷ m) → List·Memᴰ y (x ∷ l) → x ≡ y
-    first (here e) j = e
-    first (there i) (here e) = sym e
-    first (there i) (there j) = absurd (let h = b .0 x i in let k = a .0 y j in omega arith)
-
-    rest : {y : ℕ} {m : List ℕ} (z : ℕ) → (z ≡ y → ⊥) → List·Memᴰ z (y ∷ m) → List·Memᴰ z m
-    rest z n (here e) = absurd (n e)
-    rest z n (there i) = i
