@@ -1,5 +1,4 @@
 -- What each name and each list of lines comes to, from what the calls wrote.
 pub mod Names
-pub mod Walk
 pub mod Examples
 pub mod Lengths

@@ -1,4 +1,5 @@
 -- The laws of written text and of decimal numbers.
 pub mod Writing
+pub mod Pieces
 pub mod Decimal
 pub mod Examples

@@ -4,10 +4,9 @@ use mathlib.Core.Bool.{true, false}
 use mathlib.Core.Logic.{⊎-elim}
 use mathlib.Core.List.{List, [], _∷_, _++_, append-assoc}
 use Prim.Native.Nat.{ℕ, suc, _+_, _≤_, _<_}
-use native.Mathlib.Numerals.{add-one}
 use native.Mathlib.Omega.{arith}
-use lib.ListN.{length, getD, drop, set, length-set, length-append, drop-of-length-le}
-use lib.Seq.{drop-cons, set-at}
+use lib.ListN.{length, drop, set, length-set, length-append}
+use lib.Seq.{set-at}
 use lib.Dec.{ltb}
 use borrow.Author.Tests.{lt-ltb, le-ltb, ltb-true}
 use Rattle.lemmas.proofs.Cases.{at-true, at-false, both-branches}
@@ -65,17 +64,6 @@ write-inside t (b ∷ bs) h =
 -- one call after the other
 pub write-both : (t : Text) {u v : Text} (xs ys : List ℕ) → u ≡ write t xs → v ≡ write u ys → v ≡ write t (xs ++ ys)
 write-both t xs ys e f = f ∙ ap (λ (x : Text). write x ys) e ∙ write-append t xs ys
-
--- a walk over bytes: what is left to write once the byte at a place is written, and once all are
-pub write-next : (t : Text) {u : Text} (bs : List ℕ) (i : ℕ) → i < length bs → u ≡ write t (getD bs i 0 ∷ [])
-    → write u (drop (i + 1) bs) ≡ write t (drop i bs)
-write-next t bs i h e =
-    write-both t (getD bs i 0 ∷ []) (drop (i + 1) bs) e refl
-    ∙ ap (write t) (ap (λ (k : ℕ). getD bs i 0 ∷ drop k bs) (add-one i) ∙ sym (drop-cons bs i 0 h))
-
-pub write-ended : (t : Text) (bs : List ℕ) (i : ℕ) → length bs ≤ i → t ≡ write t (drop i bs)
-unfolding write
-write-ended t bs i h = ap (write t) (sym (drop-of-length-le bs h))
 
 -- where there is a place for each, they stand one after the other behind what was written, and the rest is as found
 write-behind : (before rest bs : List ℕ) → length bs ≤ length rest

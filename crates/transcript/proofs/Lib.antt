@@ -1,5 +1,5 @@
 -- The laws of a transcript.
-pub mod Walk
+pub mod Told
 pub mod Fresh
 pub mod Settle
 pub mod Lengths

@@ -1,11 +1,12 @@
 -- `bytes` meets its contract. The loop's invariant: the bytes that are left make of the room what all of them make of the room
 -- as found. Assumes nothing.
 use mathlib.Core.Path.{_≡_, refl, _∙_}
+use mathlib.Core.List.{[], _∷_}
 use Prim.Native.Nat.{_-_}
 use native.Mathlib.Omega.{arith}
 use lib.ListN.{length, drop}
 use borrow.Author.Needs.{needs}
-use Rattle.text.proofs.Writing.{write-next, write-ended}
+use Rattle.text.proofs.Pieces.{left-next, left-none}
 use Rattle.text.specs.Text.{text, write}
 use Rattle.text.proofs.bytes.Statement.{statement}
 use Rattle.text.proofs.bytes.Tie as tie
@@ -32,13 +33,13 @@ loop-less : tie.Need-loop-less Inv-loop μ-loop
 loop-less c = omega arith
 
 loop-again : tie.Need-loop-again Inv-loop μ-loop
-loop-again c = (write-next _ _ _ (c .before .before .before .before .before .loop-test .taken) (c .before .before .put .ensures) ∙ (c .before .before .before .before .before .before .loop .inv .0), (c .before .before .put .kept .0) ∙ (c .before .before .before .before .before .before .loop .inv .1))
+loop-again c = (left-next (λ _ x. x ∷ []) (λ _ l. l) _ (λ _ _. refl) _ (c .before .before .before .before .before .loop-test .taken) _ (c .before .before .put .ensures) ∙ (c .before .before .before .before .before .before .loop .inv .0), (c .before .before .put .kept .0) ∙ (c .before .before .before .before .before .before .loop .inv .1))
 
 same-length : tie.Need-same-length Inv-loop μ-loop
 same-length c = (c .before .loop .inv .1)
 
 returns : tie.Need-returns Inv-loop μ-loop
-returns c = write-ended _ _ _ (c .loop-test .left) ∙ (c .before .loop .inv .0)
+returns c = left-none (λ _ x. x ∷ []) (λ _ l. l) _ refl _ (c .loop-test .left) _ ∙ (c .before .loop .inv .0)
 
 pub bytes-spec : {M : Type 1} → statement M
 bytes-spec =

@@ -1,16 +1,28 @@
--- `messages` meets its contract. Assumes nothing.
-use mathlib.Core.Path.{_∙_, _≡_, refl}
-use Prim.Native.Nat.{_-_}
+-- `messages` meets its contract. The loop's invariant: the lines that are left make of the room what all of them make of the room
+-- as found. Assumes nothing.
+use mathlib.Core.Path.{_∙_, _≡_, refl, ap}
+use mathlib.Core.List.{List}
+use Prim.Native.Nat.{ℕ, _-_}
 use native.Mathlib.Omega.{arith}
-use lib.ListN.{length}
+use lib.ListN.{length, take}
 use borrow.Author.Needs.{needs, scaled-fits}
-use Rattle.text.specs.Text.{text}
-use Rattle.transcript.proofs.Walk.{Left, left-next, left-none}
+use Rattle.text.specs.Text.{Text, text, write}
+use Rattle.text.proofs.Pieces.{Left, first-next, first-none}
+use Rattle.lent.specs.Coded.{messageOf}
+use Rattle.records.specs.declared.messages.Message.{Message}
+use Rattle.transcript.specs.Transcript.{lineOf, messageLines}
 use Rattle.transcript.proofs.messages.Statement.{statement}
 use Rattle.transcript.proofs.messages.Tie as tie
 
+-- the line of message k as it is coded
+abbrev line : ℕ → ℕ → List ℕ
+line k x = lineOf k (messageOf x)
+
+coded : (t : Text) (k x : ℕ) {u : Text} {m : Message} → u ≡ write t (lineOf k m) → m ≡ messageOf x → u ≡ write t (line k x)
+coded t k x e f = e ∙ ap (λ (m : Message). write t (lineOf k m)) f
+
 abbrev Inv-loop : tie.InvT-loop
-Inv-loop room₀ at list sent end₀ k₀ room end k = (Left (text room end) list sent k ≡ Left (text room₀ at) list sent 0) × (length room ≡ length room₀)
+Inv-loop room₀ at list sent end₀ k₀ room end k = (Left messageLines (text room end) (take sent list) k ≡ Left messageLines (text room₀ at) (take sent list) 0) × (length room ≡ length room₀)
 
 abbrev μ-loop : tie.MeasureT-loop
 μ-loop room₀ at list sent end₀ k₀ room end k = sent - k
@@ -37,13 +49,15 @@ loop-less : tie.Need-loop-less Inv-loop μ-loop
 loop-less c = omega arith
 
 loop-again : tie.Need-loop-again Inv-loop μ-loop
-loop-again c = (left-next _ _ (c .before .before .before .before .before .before .before .before .before .before .pre) _ (c .before .before .before .before .before .before .loop-test .taken) _ (c .before .before .message .ensures) (c .before .before .before .message-of .ensures) ∙ (c .before .before .before .before .before .before .before .loop .inv .0), (c .before .before .message .kept .0) ∙ (c .before .before .before .before .before .before .before .loop .inv .1))
+unfolding messageLines
+loop-again c = (first-next line messageLines _ _ _ (c .before .before .before .before .before .before .before .before .before .before .pre) (λ _ _. refl) (c .before .before .before .before .before .before .loop-test .taken) _ (coded _ _ _ (c .before .before .message .ensures) (c .before .before .before .message-of .ensures)) ∙ (c .before .before .before .before .before .before .before .loop .inv .0), (c .before .before .message .kept .0) ∙ (c .before .before .before .before .before .before .before .loop .inv .1))
 
 same-length : tie.Need-same-length Inv-loop μ-loop
 same-length c = (c .before .loop .inv .1)
 
 returns : tie.Need-returns Inv-loop μ-loop
-returns c = left-none _ _ (c .before .before .before .before .pre) _ (c .loop-test .left) _ ∙ (c .before .loop .inv .0)
+unfolding messageLines
+returns c = first-none line messageLines _ _ _ (c .before .before .before .before .pre) refl (c .loop-test .left) _ ∙ (c .before .loop .inv .0)
 
 pub messages-spec : {M : Type 1} → statement M
 messages-spec =

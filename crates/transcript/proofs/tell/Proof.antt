@@ -1,6 +1,6 @@
 -- `tell` meets its contract. Assumes nothing.
 use borrow.Author.Needs.{needs}
-use Rattle.transcript.proofs.Walk.{told-accepted, told-refused}
+use Rattle.transcript.proofs.Told.{told-accepted, told-refused}
 use Rattle.transcript.proofs.tell.Statement.{statement}
 use Rattle.transcript.proofs.tell.Tie as tie
 
