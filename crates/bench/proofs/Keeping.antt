@@ -18,7 +18,7 @@ use Rattle.nodes.specs.Sets.{Inside, noNode, below, membersFrom, members}
 use Rattle.nodes.specs.Words.{places}
 use Rattle.nodes.proofs.Operations.{in-below}
 use Rattle.nodes.proofs.Inside.{inside-member}
-use Rattle.nodes.proofs.Size.{members-in}
+use Rattle.nodes.proofs.Members.{members-in}
 use Rattle.records.specs.declared.messages.Kind.{Kind}
 use Rattle.records.specs.declared.messages.Kind.the-variants.{Notify, Grant, Ack, Done}
 use Rattle.records.specs.declared.messages.Message.{Message}

@@ -12,7 +12,8 @@ use Rattle.nodes.specs.Words.{places}
 use Rattle.nodes.proofs.Bit.{bit-empty, has-in, in-has}
 use Rattle.nodes.proofs.Operations.{in-meet, in-with, in-below}
 use Rattle.nodes.proofs.Inside.{inside-in}
-use Rattle.nodes.proofs.Size.{members-in, members-ascending, size-members}
+use Rattle.nodes.proofs.Members.{members-in, members-ascending}
+use Rattle.nodes.proofs.Size.{size-members}
 use Rattle.waits.specs.declared.numbers.Checked.{Checked}
 use Rattle.waits.specs.declared.numbers.Checked.the-variants.{Accepted, Refused}
 use Rattle.waits.specs.declared.numbers.Refusal.{Refusal}

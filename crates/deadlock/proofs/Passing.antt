@@ -13,7 +13,7 @@ use Rattle.nodes.proofs.Bit.{in-or-out, has-in, in-has}
 use Rattle.nodes.proofs.Operations.{in-below, in-minus}
 use Rattle.nodes.proofs.Inside.{empty-inside, inside-member, with-inside}
 use Rattle.nodes.proofs.Gather.{list-in, in-list, same-list}
-use Rattle.nodes.proofs.Size.{members-in}
+use Rattle.nodes.proofs.Members.{members-in}
 use Rattle.waits.specs.Waits.{Waits, Lawful}
 use Rattle.waits.specs.Deadlocked.{Reduction, Deadlocked, Reachable, outside, passes}
 use Rattle.deadlock.specs.Sweeps.{freed, stuck}

@@ -10,7 +10,7 @@ use Rattle.nodes.specs.Sets.{In, has, with, inside, members, gather}
 use Rattle.nodes.proofs.Bit.{has-in, in-has}
 use Rattle.nodes.proofs.Inside.{inside-of, inside-member}
 use Rattle.nodes.proofs.Gather.{gather-in}
-use Rattle.nodes.proofs.Size.{members-in}
+use Rattle.nodes.proofs.Members.{members-in}
 use Rattle.records.specs.Messages.{Letter}
 use Rattle.records.specs.Records.{free}
 use Rattle.waits.specs.declared.numbers.Checked.the-variants.{Accepted}

@@ -13,7 +13,8 @@ use Rattle.nodes.specs.Sets.{Inside, single, with, minus, below, members, size}
 use Rattle.nodes.specs.Words.{places, firstOf}
 use Rattle.nodes.proofs.Operations.{with-empty, in-minus, in-below}
 use Rattle.nodes.proofs.Inside.{inside-in, inside-member}
-use Rattle.nodes.proofs.Size.{size-members, members-in}
+use Rattle.nodes.proofs.Members.{members-in}
+use Rattle.nodes.proofs.Size.{size-members}
 use Rattle.nodes.proofs.First.{members-first, members-ended}
 
 -- the members of a set, each with first added

@@ -1,4 +1,4 @@
--- What each name and each list of lines comes to, from what the calls wrote.
+-- The laws of the lines of a replay.
 pub mod Names
 pub mod Examples
 pub mod Lengths

@@ -12,7 +12,7 @@ use Rattle.nodes.specs.declared.Smallest.the-variants.{At, Nothing}
 use Rattle.nodes.specs.Sets.{single, minus, members}
 use Rattle.nodes.specs.Words.{firstOf}
 use Rattle.nodes.proofs.Operations.{in-minus, bit-single-same, bit-single-other}
-use Rattle.nodes.proofs.Size.{members-in, members-ascending}
+use Rattle.nodes.proofs.Members.{members-in, members-ascending}
 
 abbrev number : Smallest → ℕ
 number (At k) = suc (k .0)

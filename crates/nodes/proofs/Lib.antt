@@ -3,6 +3,7 @@ pub mod Bit
 pub mod Operations
 pub mod Inside
 pub mod Gather
+pub mod Members
 pub mod Size
 pub mod Walk
 pub mod Words

@@ -16,7 +16,8 @@ use Rattle.nodes.specs.Sets.{bit, has, inside, Inside, below, only, memb
 use Rattle.nodes.specs.Words.{firstOf}
 use Rattle.nodes.proofs.Bit.{bit-above}
 use Rattle.nodes.proofs.Inside.{of-inside, empty-inside, inside-lt}
-use Rattle.nodes.proofs.Size.{from, from-none, from-step, from-cat, members-from, members-suc, members-none, members-all, size-members, size-empty, size-below}
+use Rattle.nodes.proofs.Members.{from, from-none, from-step, from-cat, members-from, members-suc, members-none, members-all}
+use Rattle.nodes.proofs.Size.{size-members, size-empty, size-below}
 
 -- every place walked, and none past the width
 pub inside-all : (w a b : ℕ) → a < 2 ^ w → ((k : ℕ) → k < w → bit a k ≤ bit b k) → inside a b ≡ true

@@ -18,7 +18,8 @@ use Rattle.lemmas.proofs.Each.{each-from, each-in, each-length, once-each}
 use Rattle.nodes.specs.Sets.{In, Inside, below, members, size}
 use Rattle.nodes.proofs.Operations.{in-below}
 use Rattle.nodes.proofs.Inside.{inside-member}
-use Rattle.nodes.proofs.Size.{members-in, members-once, size-members}
+use Rattle.nodes.proofs.Members.{members-in, members-once}
+use Rattle.nodes.proofs.Size.{size-members}
 use Rattle.records.specs.declared.messages.Kind.{Kind}
 use Rattle.records.specs.declared.messages.Kind.the-variants.{Notify, Grant, Ack, Done}
 use Rattle.records.specs.Messages.{Letter, kindNumber}

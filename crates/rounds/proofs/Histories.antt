@@ -1,4 +1,4 @@
--- That it is so of every history: an opening keeps it, and so does a message that arrives. Assumes nothing.
+-- Every history is told right, as Told has it: an opening keeps it so, and so does a message that arrives. Assumes nothing.
 use mathlib.Core.Path.{_≡_, refl, sym, ap, _∙_, subst}
 use mathlib.Core.Logic.{_⊎_, inl, inr, ⊎-elim}
 use mathlib.Core.List.{List, [], _∷_, _++_, List·Memᴰ, List·Memᴰ·append-cases}

@@ -11,7 +11,7 @@ use Rattle.lemmas.proofs.Tests.{not-both, true-or-false, not-true-false}
 use Rattle.nodes.specs.Sets.{In}
 use Rattle.nodes.proofs.Bit.{in-has}
 use Rattle.nodes.proofs.Inside.{same-members}
-use Rattle.nodes.proofs.Size.{members-ascending}
+use Rattle.nodes.proofs.Members.{members-ascending}
 use Rattle.records.specs.declared.messages.Kind.{Kind}
 use Rattle.records.specs.Messages.{Letter}
 use Rattle.records.specs.Records.{called, free, hadOf}

@@ -9,7 +9,7 @@ use Rattle.nodes.specs.Sets.{In, Inside, below}
 use Rattle.nodes.proofs.Operations.{in-minus, in-below}
 use Rattle.nodes.proofs.Inside.{inside-in}
 use Rattle.nodes.proofs.Gather.{gather-in, in-gather}
-use Rattle.nodes.proofs.Size.{members-in}
+use Rattle.nodes.proofs.Members.{members-in}
 use Rattle.records.specs.Records.{called, free}
 use Rattle.waits.specs.Waits.{Waits}
 use Rattle.rounds.specs.Course.{Stage}

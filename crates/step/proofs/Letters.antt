@@ -8,7 +8,8 @@ use Rattle.lemmas.specs.Lists.{Once}
 use Rattle.lemmas.proofs.Once.{once-append, once-map, mapped, mapped-from}
 use Rattle.nodes.specs.Sets.{In, membersFrom, members, size}
 use Rattle.nodes.proofs.Inside.{none-in}
-use Rattle.nodes.proofs.Size.{members-in, members-once, size-members}
+use Rattle.nodes.proofs.Members.{members-in, members-once}
+use Rattle.nodes.proofs.Size.{size-members}
 use Rattle.records.specs.declared.messages.Kind.{Kind}
 use Rattle.records.specs.declared.messages.Kind.the-variants.{Notify, Grant, Ack, Done}
 use Rattle.records.specs.Messages.{Letter}
