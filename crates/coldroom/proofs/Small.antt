@@ -1,13 +1,13 @@
 -- Every refusal's number and row are small, so that one result tells both. Assumes nothing.
 use mathlib.Core.Path.{_≡_, refl, sym, ap, subst, _∙_}
-use mathlib.Core.Bool.{Bool, true, false, cond, true≢false}
+use mathlib.Core.Bool.{Bool, true, false, cond, _&&_, true≢false}
 use mathlib.Core.List.{List, [], _∷_, _++_}
 use Prim.Native.Nat.{ℕ, zero, suc, _+_, _≤_, _<_}
 use native.Mathlib.Omega.{arith}
 use lib.ListN.{length}
 use lib.Dec.{ltb}
-use borrow.Author.Tests.{leb-false}
-use Rattle.lemmas.proofs.Tests.{or-left-false}
+use borrow.Author.Tests.{leb-false, ltb-true}
+use Rattle.lemmas.proofs.Tests.{and-left, and-right, or-left-false}
 use Rattle.nodes.specs.Sets.{noNode, members}
 use Rattle.nodes.specs.Words.{places}
 use Rattle.nodes.proofs.Walk.{listed, listed-length, listed-all}
@@ -54,6 +54,13 @@ use Rattle.bench.specs.Runs.{refuseAll, run, runOf}
 use Rattle.bench.proofs.Codes.{step-answer}
 use Rattle.coldroom.specs.Small.{Small, SmallAnswer}
 
+-- a number that a byte holds, of a row that one holds; of no row
+few : (number row : ℕ) → (ltb 0 number && ltb number 256) ≡ true → row < 256 → (1 ≤ number) × (number < 256) × (row < 256)
+few number row e h = (ltb-true 0 number (and-left (ltb 0 number) (ltb number 256) e), ltb-true number 256 (and-right (ltb 0 number) (ltb number 256) e), h)
+
+alone : (number : ℕ) → (ltb 0 number && ltb number 256) ≡ true → (1 ≤ number) × (number < 256) × (0 < 256)
+alone number e = few number 0 e (omega arith)
+
 -- a line whose refusal is small; all lines of a list
 abbrev SmallLine : Line → Type 0
 SmallLine l = Small (l .gives)
@@ -81,17 +88,7 @@ lines-small (l ∷ ls) r p h = first-small l ls r (p .0) (λ _. lines-small ls r
 
 -- ---- the rows of a graph
 row-small : (n k : ℕ) (r : Row) → k < 256 → SmallLines (rowLines n k r)
-row-small n k r h =
-    let few : (number : ℕ) → 1 ≤ number → number < 256 → (1 ≤ number) × (number < 256) × (k < 256) = λ number e f. (e, f, h) in (
-      few 2 (omega arith) (omega arith),
-      (
-        few 3 (omega arith) (omega arith),
-        (
-          few 4 (omega arith) (omega arith),
-          (few 5 (omega arith) (omega arith), (few 6 (omega arith) (omega arith), (few 7 (omega arith) (omega arith), tt))),
-        ),
-      ),
-    )
+row-small n k r h = (few 2 k refl h, (few 3 k refl h, (few 4 k refl h, (few 5 k refl h, (few 6 k refl h, (few 7 k refl h, tt))))))
 
 rows-small : (n : ℕ) (rows : List ℕ) (k m : ℕ) → k + m ≤ 256 → SmallLines (rowsLines n rows k m)
 rows-small n rows k zero h = tt
@@ -101,12 +98,12 @@ rows-small n rows k (suc m) h =
 -- ---- a graph, and a question about it
 module _ (n : ℕ) (rows : List ℕ) where
   graph-rest : n ≤ places → SmallLines (rowsLines n rows 0 n ++ line 8 0 (manyEdges n rows) ∷ [])
-  graph-rest h = small-append (rowsLines n rows 0 n) (line 8 0 (manyEdges n rows) ∷ []) (rows-small n rows 0 n (omega (arith, h))) ((omega arith, omega arith, omega arith), tt)
+  graph-rest h = small-append (rowsLines n rows 0 n) (line 8 0 (manyEdges n rows) ∷ []) (rows-small n rows 0 n (omega (arith, h))) (alone 8 refl, tt)
 
   counted : (numbers : ℕ) (ls : List Line) (r : Refusal) → (n ≤ places → SmallLines ls) → firstSaid (line 1 0 (wrongCount n numbers) ∷ ls) ≡ Refused r → Small r
   unfolding wrongCount
   counted numbers ls r p =
-      first-small (line 1 0 (wrongCount n numbers)) ls r (omega arith, omega arith, omega arith) (λ e. lines-small ls r (p (count-fits n (or-left-false (strangeCount n) _ e))))
+      first-small (line 1 0 (wrongCount n numbers)) ls r (alone 1 refl) (λ e. lines-small ls r (p (count-fits n (or-left-false (strangeCount n) _ e))))
 
   pub check-small : (r : Refusal) → checkOf n rows ≡ Refused r → Small r
   unfolding checkOf
@@ -115,7 +112,7 @@ module _ (n : ℕ) (rows : List ℕ) where
   asked-small : (i : ℕ) (more : List Line) (r : Refusal) → SmallLines more → firstSaid (askedLines n rows i more) ≡ Refused r → Small r
   asked-small i more r p =
       counted (length rows) ((rowsLines n rows 0 n ++ line 8 0 (manyEdges n rows) ∷ []) ++ line 9 0 (noNode n i) ∷ more) r
-      (λ h. small-append (rowsLines n rows 0 n ++ line 8 0 (manyEdges n rows) ∷ []) (line 9 0 (noNode n i) ∷ more) (graph-rest h) ((omega arith, omega arith, omega arith), p))
+      (λ h. small-append (rowsLines n rows 0 n ++ line 8 0 (manyEdges n rows) ∷ []) (line 9 0 (noNode n i) ∷ more) (graph-rest h) (alone 9 refl, p))
 
   pub node-small : (i : ℕ) (r : Refusal) → checkNodeOf n rows i ≡ Refused r → Small r
   unfolding checkNodeOf
@@ -123,11 +120,11 @@ module _ (n : ℕ) (rows : List ℕ) where
 
   pub list-small : (i : ℕ) (l : List ℕ) (r : Refusal) → checkListOf n rows i l ≡ Refused r → Small r
   unfolding checkListOf
-  list-small i l r = asked-small i (line 14 0 (strangeEntry n l) ∷ []) r ((omega arith, omega arith, omega arith), tt)
+  list-small i l r = asked-small i (line 14 0 (strangeEntry n l) ∷ []) r (alone 14 refl, tt)
 
   pub room-small : (i room : ℕ) (r : Refusal) → checkRoomOf n rows i room ≡ Refused r → Small r
   unfolding checkRoomOf
-  room-small i room r = asked-small i (line 15 0 (smallRoom n room) ∷ []) r ((omega arith, omega arith, omega arith), tt)
+  room-small i room r = asked-small i (line 15 0 (smallRoom n room) ∷ []) r (alone 15 refl, tt)
 
 -- ---- one controller
 module _ (n me : ℕ) (row : List ℕ) where
@@ -135,19 +132,19 @@ module _ (n me : ℕ) (row : List ℕ) where
   unfolding noNode
   owned more r p =
       let own-row = rowLines n me (rowAt row 0) in
-      first-small (line 1 0 (wrongOwn n (length row))) (line 9 0 (noNode n me) ∷ own-row ++ more) r (omega arith, omega arith, omega arith)
-      (λ e. first-small (line 9 0 (noNode n me)) (own-row ++ more) r (omega arith, omega arith, omega arith)
+      first-small (line 1 0 (wrongOwn n (length row))) (line 9 0 (noNode n me) ∷ own-row ++ more) r (alone 1 refl)
+      (λ e. first-small (line 9 0 (noNode n me)) (own-row ++ more) r (alone 9 refl)
       (λ f. let here : me < 256 = omega (arith, right-own n (length row) e .0, leb-false n me f) in
       lines-small (own-row ++ more) r (small-append own-row more (row-small n me (rowAt row 0) here) p)))
 
   module _ (ins : ℕ) (s : State) where
     pub open-small : (round : ℕ) (r : Refusal) → checkOpenOf n me row ins s round ≡ Refused r → Small r
     unfolding checkOpenOf
-    open-small round r = owned (line 13 0 (strangeKept n s ins) ∷ line 10 0 (cannotOpen (s .round) round) ∷ []) r ((omega arith, omega arith, omega arith), ((omega arith, omega arith, omega arith), tt))
+    open-small round r = owned (line 13 0 (strangeKept n s ins) ∷ line 10 0 (cannotOpen (s .round) round) ∷ []) r (alone 13 refl, (alone 10 refl, tt))
 
     pub deliver-small : (m : Message) (r : Refusal) → checkDeliverOf n me row ins s m ≡ Refused r → Small r
     unfolding checkDeliverOf
-    deliver-small m r = owned (line 13 0 (strangeKept n s ins) ∷ line 13 0 (strangeMessage n m) ∷ []) r ((omega arith, omega arith, omega arith), ((omega arith, omega arith, omega arith), tt))
+    deliver-small m r = owned (line 13 0 (strangeKept n s ins) ∷ line 13 0 (strangeMessage n m) ∷ []) r (alone 13 refl, (alone 13 refl, tt))
 
 -- ---- what a controller and a bench answer
 plain : Plain SmallAnswer
@@ -172,7 +169,7 @@ module _ (n : ℕ) (rows : List ℕ) (b : Bench) where
   step-answers s = go (strangeBench n rows b)
     where
       go : (t : Bool) → SmallAnswer (cond t (refuse 13 b) (takeStep (waitsOf n rows) b s) .answer)
-      go true = (omega arith, omega arith, omega arith)
+      go true = alone 13 refl
       go false = step-answer SmallAnswer plain (λ number g h. (omega (arith, g), omega (arith, h), omega arith)) (waitsOf n rows) b s
 
   pub run-small : (steps answers : List ℕ) (r : Refusal) → runOf n rows b steps answers .checked ≡ Refused r → Small r
@@ -180,8 +177,8 @@ module _ (n : ℕ) (rows : List ℕ) (b : Bench) where
   run-small steps answers r = go (strangeBench n rows b) (ltb (length answers) (length steps)) _ _
     where
       go : (p q : Bool) (c : Bench) (l : List ℕ) → cond p (refuseAll 13 b answers) (cond q (refuseAll 15 b answers) (run c l Accepted)) .checked ≡ Refused r → Small r
-      go true q c l e = let same : refusal 13 ≡ r = cc e in subst Small same (omega arith, omega arith, omega arith)
-      go false true c l e = let same : refusal 15 ≡ r = cc e in subst Small same (omega arith, omega arith, omega arith)
+      go true q c l e = let same : refusal 13 ≡ r = cc e in subst Small same (alone 13 refl)
+      go false true c l e = let same : refusal 15 ≡ r = cc e in subst Small same (alone 15 refl)
       go false false c l e = absurd (refused-not-accepted (sym e))
 
 -- ---- what is answered of a graph
