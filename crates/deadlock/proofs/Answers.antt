@@ -132,12 +132,7 @@ pub judged-refused : (n : ℕ) (rows : List ℕ) (i : ℕ) (l : List ℕ) {r : R
 unfolding judgedOf
 judged-refused n rows i l e = sym (ap (λ (x : Checked). judged x (cond (passes (waitsOf n rows) i l) Passes Fails)) e)
 
-pub judged-passes : (n : ℕ) (rows : List ℕ) (i : ℕ) (l : List ℕ) → checkListOf n rows i l ≡ Accepted → passes (waitsOf n rows) i l ≡ true
-    → Passes ≡ judgedOf n rows i l
+pub judged-as : (n : ℕ) (rows : List ℕ) (i : ℕ) (l : List ℕ) (b : Bool) → checkListOf n rows i l ≡ Accepted → passes (waitsOf n rows) i l ≡ b
+    → cond b Passes Fails ≡ judgedOf n rows i l
 unfolding judgedOf
-judged-passes n rows i l e f = sym (ap₂ (λ (x : Checked) (b : Bool). judged x (cond b Passes Fails)) e f)
-
-pub judged-fails : (n : ℕ) (rows : List ℕ) (i : ℕ) (l : List ℕ) → checkListOf n rows i l ≡ Accepted → passes (waitsOf n rows) i l ≡ false
-    → Fails ≡ judgedOf n rows i l
-unfolding judgedOf
-judged-fails n rows i l e f = sym (ap₂ (λ (x : Checked) (b : Bool). judged x (cond b Passes Fails)) e f)
+judged-as n rows i l b e f = sym (ap₂ (λ (x : Checked) (b : Bool). judged x (cond b Passes Fails)) e f)

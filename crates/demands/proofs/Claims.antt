@@ -32,7 +32,7 @@ use Rattle.deadlock.specs.Sweeps.{knot}
 use Rattle.deadlock.proofs.Refused.{node-accepted}
 use Rattle.deadlock.proofs.Passing.{in-outside, passes-iff, passes-same, passes-deadlocked}
 use Rattle.deadlock.proofs.Offered.{evidence-passes}
-use Rattle.deadlock.proofs.Answers.{asked-evidence, judged-passes}
+use Rattle.deadlock.proofs.Answers.{asked-evidence, judged-as}
 use Rattle.demands.specs.Demands.{Demand2}
 
 module _ (n : ℕ) (rows : List ℕ) (i : ℕ) where
@@ -85,7 +85,7 @@ module _ (n : ℕ) (rows : List ℕ) (i : ℕ) where
       → (judgedOf n rows i l ≡ Passes) ↔ (List·Memᴰ i l × ((j : ℕ) → List·Memᴰ j l → waitsOf n rows .holds j (outside (waitsOf n rows) l) ≡ false))
   list-right l ok =
       let q = passes-iff (waitsOf n rows) i l in
-      (λ e. q .0 (judged-passed l e), λ h. sym (judged-passes n rows i l ok (q .1 h)))
+      (λ e. q .0 (judged-passed l e), λ h. sym (judged-as n rows i l true ok (q .1 h)))
 
   -- order and repeats don't matter, neither for number 14 nor for what passes
   strange-same : (l m : List ℕ) → ((j : ℕ) → List·Memᴰ j l ↔ List·Memᴰ j m) → strangeEntry n l ≡ strangeEntry n m

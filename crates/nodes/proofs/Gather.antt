@@ -51,13 +51,9 @@ pub gather-none : (f : ℕ → Bool) → gather f 0 ≡ 0
 unfolding gather
 gather-none f = refl
 
-pub gather-yes : (f : ℕ → Bool) (s k : ℕ) → s ≡ gather f k → f k ≡ true → with s k ≡ gather f (k + 1)
+pub gather-next : (f : ℕ → Bool) (s k : ℕ) (b : Bool) → s ≡ gather f k → f k ≡ b → keep b k s ≡ gather f (k + 1)
 unfolding gather
-gather-yes f s k e t = rw (add-one k, ← e) (sym (ap (λ (b : Bool). keep b k s) t))
-
-pub gather-no : (f : ℕ → Bool) (s k : ℕ) → s ≡ gather f k → f k ≡ false → s ≡ gather f (k + 1)
-unfolding gather
-gather-no f s k e t = rw (add-one k, ← e) (sym (ap (λ (b : Bool). keep b k s) t))
+gather-next f s k b e t = rw (add-one k, ← e) (sym (ap (λ (x : Bool). keep x k s) t))
 
 -- ---- the set of the numbers in a list
 pub list-in : (l : List ℕ) (k : ℕ) → List·Memᴰ k l → In k (setOf l)

@@ -21,7 +21,7 @@ use Rattle.step.specs.declared.answers.Answer.the-variants.{Repeat}
 use Rattle.step.specs.Step.{Seen, Outcome, seenIn, nobody, still, stray, take}
 use Rattle.step.specs.Sent.{Grows, Fresh, Sound}
 use Rattle.step.proofs.Held.{adds-none}
-use Rattle.step.proofs.Local.{seen-sound, take-grows, take-formed, not-old, arrives}
+use Rattle.step.proofs.Local.{seen-sound, take-grows, take-formed, arrives}
 use Rattle.step.proofs.Taken.{Follows, take-follows}
 use Rattle.rounds.specs.Course.{Stage, reply}
 use Rattle.rounds.proofs.Invariant.{Says, Invariant, Goes}
@@ -71,10 +71,7 @@ module _ {w : Waits} {s round : ℕ} {c : Stage} (v : Invariant w s round (c .re
   fits = not-stray v m (said .1) (said .2)
 
   arrived : (b : Bool) → has (hadOf (m .kind) r) (m .from) ≡ b → reply w c m ≡ cond b (still r Repeat) (take o r m)
-  arrived b e =
-      not-old o r m (ap (behind (m .round)) same-round ∙ not-behind-itself (m .round))
-      ∙ arrives o r m (ap (λ (x : State). stray o x m) stays ∙ fits) (ap (λ (x : State). has (hadOf (m .kind) x) (m .from)) stays ∙ e)
-      ∙ ap (λ (x : State). cond b (still r Repeat) (take o x m)) stays
+  arrived b e = arrives o r m (ap (behind (m .round)) same-round ∙ not-behind-itself (m .round)) stays fits e
 
   pub repeats-or-takes : Repeats w c m ⊎ Takes w c m
   repeats-or-takes = elim (true-or-false (has (hadOf (m .kind) r) (m .from))) [

@@ -22,10 +22,10 @@ use Rattle.waits.specs.Waits.{Waits, Lawful}
 use Rattle.step.specs.declared.answers.Verdict.{Verdict}
 use Rattle.step.specs.declared.answers.Answer.{Answer}
 use Rattle.step.specs.declared.answers.Answer.the-variants.{Old, Repeat}
-use Rattle.step.specs.Step.{Seen, Outcome, seenIn, still, openRound, stray, take}
+use Rattle.step.specs.Step.{Seen, Outcome, seenIn, still, openRound, take}
 use Rattle.step.specs.Letters.{letter}
 use Rattle.step.proofs.Letters.{letter-in}
-use Rattle.step.proofs.Local.{not-old, old, arrives}
+use Rattle.step.proofs.Local.{old, arrives}
 use Rattle.step.proofs.Taken.{take-follows, open-begins}
 use Rattle.rounds.specs.Course.{Stage, joined, unheard, reply, after, Course}
 use Rattle.rounds.specs.Verdicts.{verdictIn, verdicts}
@@ -132,10 +132,7 @@ module _ {w : Waits} (lawful : Lawful w) {c : Stage} {said : List Verdict} {s ro
     same = ap (λ (x : ℕ). inRound x r) at ∙ runs .kept (m .to) low
 
     arrived : {b : Bool} → has (hadOf (m .kind) (d .records (m .to))) (m .from) ≡ b → reply w c m ≡ cond b (still r Repeat) (take o (d .records (m .to)) m)
-    arrived {b} e =
-        not-old o r m now
-        ∙ arrives o r m (ap (λ (x : State). stray o x m) same ∙ fits (good .invariant) (good .sending) m in-course) (ap (λ (x : State). has (hadOf (m .kind) x) (m .from)) same ∙ e)
-        ∙ ap (λ (x : State). cond b (still r Repeat) (take o x m)) same
+    arrived e = arrives o r m now same (fits (good .invariant) (good .sending) m in-course) e
 
     before : In (m .from) (hadOf (m .kind) (d .records (m .to))) → List·Memᴰ m k
     before h = Memᴰ·cast (ap (letter (m .kind) (m .from) (m .to)) at)

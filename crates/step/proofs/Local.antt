@@ -1,6 +1,6 @@
 -- The local laws: what holds of one node's record through an opening and through any message, whatever the other nodes do.
 -- Assumes nothing.
-use mathlib.Core.Path.{_≡_, refl, sym, ap₂, _∙_, subst}
+use mathlib.Core.Path.{_≡_, refl, sym, ap, ap₂, _∙_, subst}
 use mathlib.Core.Bool.{Bool, true, false, cond, not, false≢true}
 use mathlib.Core.Logic.{_⊎_, inl, inr}
 use Prim.Native.Nat.{ℕ, _<_}
@@ -125,23 +125,24 @@ module _ (o : Seen) (r : State) (m : Letter) where
   abbrev Takes : Type 0
   Takes = (receive o r m ≡ take o now m) × Fresh o now m × (behind (m .round) (r .round) ≡ false)
 
-  pub not-old : behind (m .round) (r .round) ≡ false → receive o r m ≡ arrive o r now m
-  unfolding receive
-  not-old e = rw e refl
-
   pub old : behind (m .round) (r .round) ≡ true → receive o r m ≡ still r Old
   unfolding receive
   old e = rw e refl
 
-  pub arrives : {a b : Bool} → stray o now m ≡ a → has (hadOf (m .kind) now) (m .from) ≡ b
-      → arrive o r now m ≡ cond a (still r Stray) (cond b (still r Repeat) (take o now m))
-  unfolding arrive
-  arrives e f = ap₂ (λ (a b : Bool). cond a (still r Stray) (cond b (still r Repeat) (take o now m))) e f
+  -- if it isn't, x being the record in its round
+  pub arrives : {x : State} {a b : Bool} → behind (m .round) (r .round) ≡ false → now ≡ x → stray o x m ≡ a → has (hadOf (m .kind) x) (m .from) ≡ b
+      → receive o r m ≡ cond a (still r Stray) (cond b (still r Repeat) (take o x m))
+  unfolding receive arrive
+  arrives {x} n same e f =
+      let started : receive o r m ≡ arrive o r now m = rw n refl in
+      started
+      ∙ ap (λ (y : State). arrive o r y m) same
+      ∙ ap₂ (λ (a b : Bool). cond a (still r Stray) (cond b (still r Repeat) (take o x m))) e f
 
   arrival : behind (m .round) (r .round) ≡ false → (a b : Bool) → stray o now m ≡ a → has (hadOf (m .kind) now) (m .from) ≡ b → Takes ⊎ Stays
-  arrival n true b e f = inr (Stray, not-old n ∙ arrives e f)
-  arrival n false true e f = inr (Repeat, not-old n ∙ arrives e f)
-  arrival n false false e f = inl (not-old n ∙ arrives e f, (e, f), n)
+  arrival n true b e f = inr (Stray, arrives n refl e f)
+  arrival n false true e f = inr (Repeat, arrives n refl e f)
+  arrival n false false e f = inl (arrives n refl e f, (e, f), n)
 
   -- Theorem: a message is taken or leaves everything as it was.
   pub takes-or-stays : Takes ⊎ Stays

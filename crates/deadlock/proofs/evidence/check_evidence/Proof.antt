@@ -1,8 +1,9 @@
 -- `check_evidence` meets its contract. Assumes nothing.
 use mathlib.Core.Path.{sym, _∙_}
+use mathlib.Core.Bool.{true, false}
 use borrow.Author.Needs.{needs}
 use Rattle.lemmas.proofs.Cases.{flag}
-use Rattle.deadlock.proofs.Answers.{list-shaped, judged-refused, judged-passes, judged-fails}
+use Rattle.deadlock.proofs.Answers.{list-shaped, judged-refused, judged-as}
 use Rattle.deadlock.proofs.evidence.check_evidence.Statement.{statement}
 use Rattle.deadlock.proofs.evidence.check_evidence.Tie as tie
 
@@ -22,10 +23,10 @@ list-passes-requires : tie.Need-list-passes-requires
 list-passes-requires c κs = list-shaped _ _ _ _ (sym (c .before .before .check-list .ensures) ∙ (c .enum-told .given .1))
 
 returns-2 : tie.Need-returns-2
-returns-2 c = judged-passes _ _ _ _ (sym (c .before .before .before .before .check-list .ensures) ∙ (c .before .before .enum-told .given .1)) (flag (c .before .list-passes .ensures) (c .if1 .taken))
+returns-2 c = judged-as _ _ _ _ true (sym (c .before .before .before .before .check-list .ensures) ∙ (c .before .before .enum-told .given .1)) (flag (c .before .list-passes .ensures) (c .if1 .taken))
 
 returns-3 : tie.Need-returns-3
-returns-3 c = judged-fails _ _ _ _ (sym (c .before .before .before .before .check-list .ensures) ∙ (c .before .before .enum-told .given .1)) (flag (c .before .list-passes .ensures) (c .if1 .left))
+returns-3 c = judged-as _ _ _ _ false (sym (c .before .before .before .before .check-list .ensures) ∙ (c .before .before .enum-told .given .1)) (flag (c .before .list-passes .ensures) (c .if1 .left))
 
 pub check-evidence-spec : {M : Type 1} → statement M
 check-evidence-spec =

@@ -1,10 +1,11 @@
 -- `in_of` meets its contract. The loop's invariant: the nodes passed that have j in OUT are gathered. Assumes nothing.
+use mathlib.Core.Bool.{true, false}
 use mathlib.Core.Logic.{⊎-elim}
 use mathlib.Core.Path.{_≡_, ap, sym, _∙_}
 use Prim.Native.Nat.{_≤_, _-_}
 use native.Mathlib.Omega.{arith}
 use borrow.Author.Needs.{needs}
-use Rattle.nodes.proofs.Gather.{gather-none, gather-yes, gather-no}
+use Rattle.nodes.proofs.Gather.{gather-none, gather-next}
 use Rattle.nodes.specs.Words.{num}
 use Rattle.nodes.specs.Sets.{has, gather}
 use Rattle.waits.specs.Rows.{rowAt, outOf}
@@ -44,7 +45,7 @@ loop-less : tie.Need-loop-less Inv-loop μ-loop
 loop-less c = omega arith
 
 loop-again : tie.Need-loop-again Inv-loop μ-loop
-loop-again c = (omega arith, ⊎-elim (λ v. ap num (v .2) ∙ v .1 .ensures ∙ gather-yes _ _ _ (c .before .before .before .before .before .loop .inv .1) (waits-on _ _ _ (c .before .has .ensures) (c .before .before .out-of .ensures) (c .before .before .before .row-at .ensures) (v .0 .taken))) (λ v. ap num (v .1) ∙ gather-no _ _ _ (c .before .before .before .before .before .loop .inv .1) (waits-on _ _ _ (c .before .has .ensures) (c .before .before .out-of .ensures) (c .before .before .before .row-at .ensures) (v .0 .left))) (c .if1 .came))
+loop-again c = (omega arith, ⊎-elim (λ v. ap num (v .2) ∙ v .1 .ensures ∙ gather-next _ _ _ true (c .before .before .before .before .before .loop .inv .1) (waits-on _ _ _ (c .before .has .ensures) (c .before .before .out-of .ensures) (c .before .before .before .row-at .ensures) (v .0 .taken))) (λ v. ap num (v .1) ∙ gather-next _ _ _ false (c .before .before .before .before .before .loop .inv .1) (waits-on _ _ _ (c .before .has .ensures) (c .before .before .out-of .ensures) (c .before .before .before .row-at .ensures) (v .0 .left))) (c .if1 .came))
 
 returns : tie.Need-returns Inv-loop μ-loop
 unfolding inOf
