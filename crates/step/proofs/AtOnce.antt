@@ -45,6 +45,6 @@ module _ (o : Seen) (idle : active o ≡ true → o .out ≡ 0) (waits : active 
   unfolding openRound settle
   opens-saying round = open-answer o round ∙ ap Opened (called-says round)
 
--- said by an opening and so no other
+-- an opening says one thing
 pub one-said : {v u : Verdict} {a : Answer} → a ≡ Opened u → a ≡ Opened v → v ≡ u
 one-said e f = let q : Opened _ ≡ Opened _ = sym f ∙ e in cc q

@@ -68,23 +68,23 @@ fn lists() -> Vec<String> {
 /// Questions with something wrong or just right about them, often two things at once so that the order is seen.
 fn hard_questions() -> Vec<String> {
     let good = morning_2();
-    let row_short = Rows {
-        nodes: 11,
+    let row_over = Rows {
+        nodes: 9,
         ..morning_2()
     };
-    let bad_kind = with_row(&good, 4, [3, 0, 1, 0, 0, 0]);
+    let bad_kind = with_row(&good, 4, [3, 0, 0, 0, 0, 0]);
     vec![
         about_node(&good, 10),
         about_node(&good, u64::MAX),
-        about_node(&row_short, 10),
+        about_node(&row_over, 10),
         about_list(&good, 0, &[0, 2, 3, 4, 6, 7, 255]),
         about_list(&good, 1, &[10]),
         about_list(&good, 10, &[10]),
-        about_list(&row_short, 10, &[10]),
+        about_list(&row_over, 10, &[10]),
         about_room(&good, 0, 9),
         about_room(&good, 1, 9),
         about_room(&good, 10, 9),
-        about_room(&row_short, 10, 9),
+        about_room(&row_over, 10, 9),
         about_room(&good, 1, 10),
         about_room(&good, 0, 10),
         about_room(&good, 0, 12),
