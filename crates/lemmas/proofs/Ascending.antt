@@ -6,6 +6,7 @@ use mathlib.Core.List.List·Memᴰ.{List·Memᴰ·head as here, List·Memᴰ·ta
 use Prim.Native.Nat.{ℕ, _+_, _<_}
 use native.Mathlib.Omega.{arith}
 use Rattle.lemmas.specs.Lists.{Ascending, Once}
+use Rattle.lemmas.proofs.Once.{not-first}
 
 -- one number more at the end, above all the others
 pub ascending-snoc : (l : List ℕ) (k : ℕ) → ((b : ℕ) → List·Memᴰ b l → b < k) → Ascending l → Ascending (l ++ k ∷ [])
@@ -23,18 +24,14 @@ ascending-unique (x ∷ l) [] a b f = absurd (elim (f x .0 (here refl)) [ ])
 ascending-unique (x ∷ l) (y ∷ m) a b f =
     let q : x ≡ y = first (f x .0 (here refl)) (f y .1 (here refl)) in
     ap₂ (λ (z : ℕ) (r : List ℕ). z ∷ r) q (ascending-unique l m (a .1) (b .1) (λ z. (
-      λ i. rest z (λ e. let h = a .0 z i in omega arith) (f z .0 (there i)),
-      λ i. rest z (λ e. let h = b .0 z i in omega arith) (f z .1 (there i)),
+      λ i. not-first z (λ e. let h = a .0 z i in omega arith) (f z .0 (there i)),
+      λ i. not-first z (λ e. let h = b .0 z i in omega arith) (f z .1 (there i)),
     )))
   where
     first : List·Memᴰ x (y ∷ m) → List·Memᴰ y (x ∷ l) → x ≡ y
     first (here e) j = e
     first (there i) (here e) = sym e
     first (there i) (there j) = absurd (let h = b .0 x i in let k = a .0 y j in omega arith)
-
-    rest : {y : ℕ} {m : List ℕ} (z : ℕ) → (z ≡ y → ⊥) → List·Memᴰ z (y ∷ m) → List·Memᴰ z m
-    rest z n (here e) = absurd (n e)
-    rest z n (there i) = i
 
 -- it has nothing twice
 pub ascending-once : (l : List ℕ) → Ascending l → Once l

@@ -34,13 +34,14 @@ module _ {A : Type 0} where
     once-map f l (λ y z m n. one y z (there m) (there n)) (a .1),
   )
 
+  -- a member that isn't the first is one of the others
+  pub not-first : {x : A} {l : List A} (z : A) → (z ≡ x → ⊥) → List·Memᴰ z (x ∷ l) → List·Memᴰ z l
+  not-first z n (here e) = absurd (n e)
+  not-first z n (there m) = m
+
   -- a member taken out of a list: one shorter, and every other is still there
   without : (x : A) (l : List A) → List·Memᴰ x l → (r : List A) × (length l ≡ suc (length r)) × ((y : A) → (y ≡ x → ⊥) → List·Memᴰ y l → List·Memᴰ y r)
-  without x (a ∷ l) (here e) = (l, refl, λ y n m. rest y n m)
-    where
-      rest : (y : A) → (y ≡ x → ⊥) → List·Memᴰ y (a ∷ l) → List·Memᴰ y l
-      rest y n (here f) = absurd (n (f ∙ sym e))
-      rest y n (there m) = m
+  without x (a ∷ l) (here e) = (l, refl, λ y n m. not-first y (λ f. n (f ∙ sym e)) m)
   without x (a ∷ l) (there i) =
       let r = without x l i in
       (a ∷ r .0, ap suc (r .1), λ y n m. rest (r .0) (r .2) y n m)

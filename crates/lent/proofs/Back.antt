@@ -18,21 +18,21 @@ use Rattle.records.specs.Causes.{whyOf, causeNumber}
 use Rattle.records.specs.Messages.{Letter, kindOf, kindNumber, letterOf}
 use Rattle.records.specs.Records.{State}
 use Rattle.records.proofs.Unique.{numbered}
-use Rattle.lent.specs.Kept.{recordSize, recordAt, stateAt, numbersOf, putState}
+use Rattle.lent.specs.Kept.{recordSize, recordAt, stateAt, stateNumbers, putState}
 use Rattle.lent.specs.Coded.{messageOf, numberOf}
 use Rattle.lent.specs.Steps.{stepNumber, stepOf}
 use Rattle.lent.proofs.Letters.{kind-number-le}
 
 -- ---- records
 module _ (records : List ℕ) (i j : ℕ) (s : State) (h : (i < j) ⊎ (j < i)) where
-  kept : (p : ℕ) → p < recordSize → getD (sets records (i * recordSize) (numbersOf s)) (j * recordSize + p) 0 ≡ getD records (j * recordSize + p) 0
+  kept : (p : ℕ) → p < recordSize → getD (sets records (i * recordSize) (stateNumbers s)) (j * recordSize + p) 0 ≡ getD records (j * recordSize + p) 0
   kept p l =
       ⊎-elim
-      (λ (q : i < j). sets-after (numbersOf s) records (i * recordSize) (j * recordSize + p) (omega arith))
-      (λ (q : j < i). sets-before (numbersOf s) records (i * recordSize) (j * recordSize + p) (omega arith))
+      (λ (q : i < j). sets-after (stateNumbers s) records (i * recordSize) (j * recordSize + p) (omega arith))
+      (λ (q : j < i). sets-before (stateNumbers s) records (i * recordSize) (j * recordSize + p) (omega arith))
       h
 
-  kept-first : getD (sets records (i * recordSize) (numbersOf s)) (j * recordSize) 0 ≡ getD records (j * recordSize) 0
+  kept-first : getD (sets records (i * recordSize) (stateNumbers s)) (j * recordSize) 0 ≡ getD records (j * recordSize) 0
   kept-first = rw add-zero at (kept 0 (lit< tt))
 
   pub record-kept : stateAt (putState records i s) j ≡ stateAt records j
@@ -41,7 +41,7 @@ module _ (records : List ℕ) (i j : ℕ) (s : State) (h : (i < j) ⊎ (j < i)) 
 
 pub length-put : (records : List ℕ) (i : ℕ) (s : State) → length (putState records i s) ≡ length records
 unfolding putState
-length-put records i s = length-sets records (i * recordSize) (numbersOf s)
+length-put records i s = length-sets records (i * recordSize) (stateNumbers s)
 
 cause-back : (why : Why) → whyOf (causeNumber why) ≡ why
 cause-back Not = refl
@@ -49,10 +49,10 @@ cause-back Itself = refl
 cause-back (By k) = refl
 
 module _ (records : List ℕ) (i : ℕ) (s : State) (h : i * recordSize + recordSize ≤ length records) where
-  there : (j : ℕ) → j < recordSize → getD (sets records (i * recordSize) (numbersOf s)) (i * recordSize + j) 0 ≡ getD (numbersOf s) j 0
-  there j l = sets-at (numbersOf s) records (i * recordSize) j l h
+  there : (j : ℕ) → j < recordSize → getD (sets records (i * recordSize) (stateNumbers s)) (i * recordSize + j) 0 ≡ getD (stateNumbers s) j 0
+  there j l = sets-at (stateNumbers s) records (i * recordSize) j l h
 
-  first : getD (sets records (i * recordSize) (numbersOf s)) (i * recordSize) 0 ≡ s .round
+  first : getD (sets records (i * recordSize) (stateNumbers s)) (i * recordSize) 0 ≡ s .round
   first = rw add-zero at (there 0 (lit< tt))
 
   pub record-back : stateAt (putState records i s) i ≡ s
@@ -69,7 +69,7 @@ module _ (records : List ℕ) (i : ℕ) (s : State) (h : i * recordSize + record
 
 -- a record that is put where it stands changes nothing
 module _ (records : List ℕ) (i : ℕ) where
-  stands : (j : ℕ) → j < recordSize → getD (numbersOf (stateAt records i)) j 0 ≡ getD records (i * recordSize + j) 0
+  stands : (j : ℕ) → j < recordSize → getD (stateNumbers (stateAt records i)) j 0 ≡ getD records (i * recordSize + j) 0
   unfolding stateAt recordAt num
   stands zero h = ap (λ (k : ℕ). getD records k 0) (sym (add-zero (i * recordSize)))
   stands (suc zero) h = numbered (getD records (i * recordSize + 1) 0)
@@ -82,7 +82,7 @@ module _ (records : List ℕ) (i : ℕ) where
 
   pub record-stands : putState records i (stateAt records i) ≡ records
   unfolding putState
-  record-stands = sets-same (numbersOf (stateAt records i)) records (i * recordSize) stands
+  record-stands = sets-same (stateNumbers (stateAt records i)) records (i * recordSize) stands
 
 -- ---- messages
 kind-back : (k : Kind) → kindOf (kindNumber k) ≡ k

@@ -35,9 +35,9 @@ unfoldable pub stateAt : List ℕ → ℕ → State
 stateAt records i = stateOf (recordAt records i)
 
 -- the seven numbers of what a record says
-abbrev pub numbersOf : State → List ℕ
-numbersOf s = s .round ∷ causeNumber (s .call) ∷ causeNumber (s .freed) ∷ s .notify ∷ s .grant ∷ s .ack ∷ s .done ∷ []
+abbrev pub stateNumbers : State → List ℕ
+stateNumbers s = s .round ∷ causeNumber (s .call) ∷ causeNumber (s .freed) ∷ s .notify ∷ s .grant ∷ s .ack ∷ s .done ∷ []
 
 -- the list with another record for node i
 unfoldable pub putState : List ℕ → ℕ → State → List ℕ
-putState records i s = sets records (i * recordSize) (numbersOf s)
+putState records i s = sets records (i * recordSize) (stateNumbers s)

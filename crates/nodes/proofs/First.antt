@@ -1,11 +1,12 @@
 -- Taking the smallest member out of a set, one after another. Assumes nothing.
 use mathlib.Core.Path.{_≡_, refl, sym, ap, ap₂, _∙_}
-use mathlib.Core.List.{List, [], _∷_, List·Memᴰ}
-use mathlib.Core.List.List·Memᴰ.{List·Memᴰ·head as here, List·Memᴰ·tail as there}
+use mathlib.Core.List.{List, [], _∷_}
+use mathlib.Core.List.List·Memᴰ.{List·Memᴰ·tail as there}
 use Prim.Native.Nat.{ℕ, zero, suc}
 use native.Mathlib.Nat.{suc-inj, suc-ne-zero}
 use native.Mathlib.Omega.{arith}
 use Rattle.lemmas.proofs.Ascending.{ascending-unique}
+use Rattle.lemmas.proofs.Once.{not-first}
 use Rattle.nodes.specs.declared.Node.{Node}
 use Rattle.nodes.specs.declared.Smallest.{Smallest}
 use Rattle.nodes.specs.declared.Smallest.the-variants.{At, Nothing}
@@ -31,13 +32,9 @@ first-of s k (x ∷ l) e f =
       )),
       λ m.
           let i = in-minus s (single x) z .0 (members-in (minus s (single x)) z .0 m) in
-          other z (λ q. i .1 (rw q (bit-single-same x))) (rw e at (members-in s z .1 (i .0))),
+          not-first z (λ q. i .1 (rw q (bit-single-same x))) (rw e at (members-in s z .1 (i .0))),
     )) in
     e ∙ ap₂ (λ (y : ℕ) (r : List ℕ). y ∷ r) same (rest ∙ ap (λ (y : ℕ). members (minus s (single y))) same)
-  where
-    other : (z : ℕ) → (z ≡ x → ⊥) → List·Memᴰ z (x ∷ l) → List·Memᴰ z l
-    other z n (here q) = absurd (n q)
-    other z n (there m) = m
 
 pub members-first : (s : ℕ) (k : Node) → At k ≡ firstOf (members s) → members s ≡ k .0 ∷ members (minus s (single (k .0)))
 members-first s k e = first-of s k (members s) refl (sym e)

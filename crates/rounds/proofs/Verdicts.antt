@@ -14,7 +14,7 @@ use Rattle.waits.specs.Waits.{Waits, Lawful}
 use Rattle.step.specs.declared.answers.Verdict.{Verdict}
 use Rattle.step.specs.declared.answers.Verdict.the-variants.{NoVerdict, Deadlocked, NotDeadlocked}
 use Rattle.step.specs.Step.{Seen, Outcome, seenIn, complete, newly, verdictOf, openRound}
-use Rattle.step.proofs.Taken.{take-answer, open-answer, open-begins}
+use Rattle.step.proofs.Taken.{take-answer, open-says, open-begins}
 use Rattle.rounds.specs.Course.{Stage, put, unheard, reply, after, Course, ended}
 use Rattle.rounds.specs.Verdicts.{given, verdictIn, verdicts}
 use Rattle.rounds.proofs.Put.{put-same, put-other, put-still}
@@ -41,7 +41,7 @@ verdict-other true t e = ap (λ (b : Bool). given (cond b (cond (free t) NotDead
 verdict-other false t e = refl
 
 opening-verdict : (w : Waits) (s round : ℕ) → verdictIn (openRound (seenIn w s) round .answer) ≡ endingAt w s (openRound (seenIn w s) round .state)
-opening-verdict w s round = ap verdictIn (open-answer (seenIn w s) round) ∙ verdict-opener _ _ (open-begins (seenIn w s) round .opener)
+opening-verdict w s round = ap verdictIn (open-says (seenIn w s) round) ∙ verdict-opener _ _ (open-begins (seenIn w s) round .opener)
 
 -- ---- a message that was sent is delivered
 module _ {w : Waits} {s round : ℕ} {c : Stage} {l : List Letter} (good : Good w s round c l) (m : Letter) (i : List·Memᴰ m (c .sent)) where

@@ -14,7 +14,7 @@ use Rattle.step.specs.declared.answers.Answer.{Answer}
 use Rattle.step.specs.declared.answers.Answer.the-variants.{Opened}
 use Rattle.step.specs.Step.{Seen, Move, active, complete, beCalled, verdictOf, settle, openRound}
 use Rattle.step.proofs.Reacts.{called-cases}
-use Rattle.step.proofs.Taken.{open-answer}
+use Rattle.step.proofs.Taken.{open-says}
 
 -- said at once: not deadlocked, if the node waits for nobody and nobody on it
 abbrev pub saidAtOnce : Seen → Verdict
@@ -43,7 +43,7 @@ module _ (o : Seen) (idle : active o ≡ true → o .out ≡ 0) (waits : active 
   -- Theorem: an opening says that.
   pub opens-saying : (round : ℕ) → openRound o round .answer ≡ Opened (saidAtOnce o)
   unfolding openRound settle
-  opens-saying round = open-answer o round ∙ ap Opened (called-says round)
+  opens-saying round = open-says o round ∙ ap Opened (called-says round)
 
 -- an opening says one thing
 pub one-said : {v u : Verdict} {a : Answer} → a ≡ Opened u → a ≡ Opened v → v ≡ u

@@ -117,5 +117,5 @@ pub freed-by : (o : Seen) (s : State) {by why : Why} {m : Move} → m ≡ become
 freed-by o s e f = e ∙ ap (λ (x : Why). becomeFree o x s) f
 
 -- DONE is in from all OUT
-pub out-inside : (done : ℕ) {o x : ℕ} {r : Bool} → r ≡ inside o done → o ≡ x → r ≡ inside x done
-out-inside done e f = e ∙ ap (λ (y : ℕ). inside y done) f
+pub out-in : (done : ℕ) {o x : ℕ} {r : Bool} → r ≡ inside o done → o ≡ x → r ≡ inside x done
+out-in done e f = e ∙ ap (λ (y : ℕ). inside y done) f

@@ -99,6 +99,6 @@ pub take-answer : (o : Seen) (s : State) (m : Letter)
 unfolding take settle
 take-answer o s m = refl
 
-pub open-answer : (o : Seen) (round : ℕ) → openRound o round .answer ≡ Opened (verdictOf (complete o (openRound o round .state)) (openRound o round .state))
+pub open-says : (o : Seen) (round : ℕ) → openRound o round .answer ≡ Opened (verdictOf (complete o (openRound o round .state)) (openRound o round .state))
 unfolding openRound settle complete
-open-answer o round = refl
+open-says o round = refl
