@@ -17,7 +17,8 @@ use Rattle.step.specs.declared.answers.Verdict.{Verdict}
 use Rattle.step.specs.declared.answers.Answer.the-variants.{Opened}
 use Rattle.step.specs.Step.{Outcome, seenIn, openRound}
 use Rattle.step.specs.Letters.{lettersOf}
-use Rattle.step.proofs.AtOnce.{saidAtOnce, opens-saying, one-said}
+use Rattle.step.specs.Answers.{saidAtOnce}
+use Rattle.step.proofs.AtOnce.{opens-saying, one-said}
 use Rattle.node.specs.Refusals.{checkOpenOf}
 use Rattle.node.specs.Calls.{own, unlessRefused, openOf}
 use Rattle.node.proofs.Refused.{open-own}

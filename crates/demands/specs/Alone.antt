@@ -1,22 +1,20 @@
--- One controller by itself and its node on a bench: told its row and its IN, it does with its record what its node there does. Assumes
--- nothing.
+-- One controller by itself: told its row and its IN, it does with its record what its node on a bench does; and what its opening says
+-- at once. Assumes nothing.
 use mathlib.Core.Path.{_≡_}
-use mathlib.Core.Bool.{cond, _&&_}
 use mathlib.Core.List.{List}
 use Prim.Native.Nat.{ℕ, _≤_, _<_}
-use lib.Dec.{eqb}
 use lib.ListN.{length, getD}
 use Rattle.records.specs.Rounds.{lastRound}
 use Rattle.records.specs.Records.{State}
 use Rattle.waits.specs.declared.numbers.Checked.the-variants.{Accepted}
 use Rattle.waits.specs.Waits.{inOf}
-use Rattle.waits.specs.Rows.{rowSize, rowAt, holdsOf, waitsOf}
+use Rattle.waits.specs.Rows.{rowSize, rowAt, waitsOf}
 use Rattle.waits.specs.Numbers.{checkOf}
 use Rattle.step.specs.declared.answers.Verdict.{Verdict}
-use Rattle.step.specs.declared.answers.Verdict.the-variants.{NoVerdict, NotDeadlocked}
 use Rattle.step.specs.declared.answers.Answer.the-variants.{Opened}
 use Rattle.step.specs.Step.{seenIn, openRound, receive}
-use Rattle.node.specs.Calls.{openOf, deliverOf}
+use Rattle.step.specs.Answers.{saidAtOnce}
+use Rattle.node.specs.Calls.{own, openOf, deliverOf}
 use Rattle.lent.specs.declared.steps.Step.{Step}
 use Rattle.lent.specs.Kept.{stateAt}
 use Rattle.lent.specs.Coded.{messageOf}
@@ -39,6 +37,6 @@ pub record Alone (n : ℕ) (rows : List ℕ) : Type 0 where
       ≡ receive (seenIn (waitsOf n rows) i) (stateAt (b .records) i) (letterAt b k)
   -- An opening says nothing at once, but of an active node that nobody waits on, whatever row and IN it is told.
   pub at-once : (me : ℕ) (row : List ℕ) (ins : ℕ) (s : State) (round : ℕ) (v : Verdict) → openOf n me row ins s round .answer ≡ Opened v
-      → v ≡ cond (holdsOf (rowAt row 0) 0 && eqb ins 0) NotDeadlocked NoVerdict
+      → v ≡ saidAtOnce (own me row ins)
   -- Every bench that was worked from a fresh start, over an accepted graph, is one.
   pub worked : checkOf n rows ≡ Accepted → (messages : List ℕ) (steps : List Step) → Good n rows (afterSteps n rows (fresh n messages) steps)

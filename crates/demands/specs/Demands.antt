@@ -3,11 +3,10 @@
 -- `check` checkOf, `check_evidence` judgedOf, `all_deadlocked` FoundSays, `deadlocked` ClaimSays, `ring_report` ReportSays,
 -- `write_evidence` WrittenSays, `open` openOf, `deliver` deliverOf, `step` stepOn, `run` runOf. Assumes nothing.
 use mathlib.Core.Path.{_≡_}
-use mathlib.Core.Bool.{true, false, cond, _&&_}
+use mathlib.Core.Bool.{true, false}
 use mathlib.Core.Logic.{_⊎_, _↔_}
 use mathlib.Core.List.{List, [], _∷_, _++_, map, List·Memᴰ}
 use Prim.Native.Nat.{ℕ, _+_, _*_, _≤_, _<_}
-use lib.Dec.{eqb}
 use lib.ListN.{length, take, drop}
 use Rattle.nodes.specs.declared.Set.{Set}
 use Rattle.nodes.specs.Sets.{In, Inside, meet, size}
@@ -17,7 +16,7 @@ use Rattle.records.specs.Rounds.{lastRound, behind, ahead}
 use Rattle.records.specs.Records.{State}
 use Rattle.waits.specs.declared.numbers.Refusal.{Refusal}
 use Rattle.waits.specs.declared.numbers.Checked.the-variants.{Accepted, Refused}
-use Rattle.waits.specs.Waits.{Waits, inOf, edges}
+use Rattle.waits.specs.Waits.{Waits, edges}
 use Rattle.waits.specs.Deadlocked.{Deadlocked, Reachable, outside}
 use Rattle.waits.specs.Rows.{rowAt, setsOf, waitsOf}
 use Rattle.waits.specs.Numbers.{graphLines, checkOf, Gives}
@@ -35,9 +34,10 @@ use Rattle.deadlock.specs.Claims.{FoundSays, ClaimSays}
 use Rattle.deadlock.specs.Ring.{ReportSays}
 use Rattle.deadlock.specs.Evidence.{Evidence, WrittenSays, judgedOf}
 use Rattle.step.specs.declared.answers.Verdict.{Verdict}
-use Rattle.step.specs.declared.answers.Verdict.the-variants.{NoVerdict, Deadlocked as Verdict·Deadlocked, NotDeadlocked as Verdict·NotDeadlocked}
+use Rattle.step.specs.declared.answers.Verdict.the-variants.{Deadlocked as Verdict·Deadlocked}
 use Rattle.step.specs.declared.answers.Answer.the-variants.{Refused as Answer·Refused, Opened as Answer·Opened}
-use Rattle.step.specs.Step.{still}
+use Rattle.step.specs.Step.{seenIn, still}
+use Rattle.step.specs.Answers.{saidAtOnce}
 use Rattle.node.specs.Refusals.{openLines, deliverLines}
 use Rattle.node.specs.Calls.{openOf, deliverOf}
 use Rattle.lent.specs.declared.steps.Step.{Step}
@@ -121,7 +121,7 @@ module _ (n : ℕ) (rows : List ℕ) where
       pub as-numbers : (round own : ℕ) → ((behind round own ≡ true) ↔ (round < own)) × ((ahead round own ≡ true) ↔ (own < round))
       -- The paper: a node sees only its own row and IN. So an opening says nothing, but of an active node that nobody waits on.
       pub at-once : (b : Bench) (s round : ℕ) (v : Verdict) → stepOn n rows b (opening s round) .answer ≡ Answer·Opened v
-          → v ≡ cond (w .holds s 0 && eqb (inOf w s) 0) Verdict·NotDeadlocked NoVerdict
+          → v ≡ saidAtOnce (seenIn w s)
       -- "no round ever gives a false verdict": what is said in a round, once at most, is right of the node that opened it.
       pub opener : (round : ℕ) (v : Verdict) → List·Memᴰ v (verdictsGiven round past) → (s : ℕ) × Opened past s round
       pub no-false : (s round : ℕ) (v : Verdict) → Opened past s round → List·Memᴰ v (verdictsGiven round past) → Right w s v

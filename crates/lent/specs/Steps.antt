@@ -12,6 +12,6 @@ stepNumber kind a b = kind * 2 ^ 48 + a * 2 ^ 24 + b
 unfoldable pub stepOf : ℕ → Step
 stepOf x = record { kind = x / 2 ^ 48; a = x / 2 ^ 24 % 2 ^ 24; b = x % 2 ^ 24 }
 
--- the number of an answer, after the messages sent so far
+-- the number of an answer; sent is how many messages are sent by then
 unfoldable pub answerNumber : ℕ → Answer → ℕ
 answerNumber sent answer = sent * 2 ^ 16 + codeOf answer

@@ -13,12 +13,9 @@ use Rattle.step.specs.declared.answers.Verdict.the-variants.{NoVerdict, 
 use Rattle.step.specs.declared.answers.Answer.{Answer}
 use Rattle.step.specs.declared.answers.Answer.the-variants.{Opened}
 use Rattle.step.specs.Step.{Seen, Move, active, complete, beCalled, verdictOf, settle, openRound}
+use Rattle.step.specs.Answers.{saidAtOnce}
 use Rattle.step.proofs.Reacts.{called-cases}
 use Rattle.step.proofs.Taken.{open-says}
-
--- said at once: not deadlocked, if the node waits for nobody and nobody on it
-abbrev pub saidAtOnce : Seen → Verdict
-saidAtOnce o = cond (active o && eqb (o .ins) 0) NotDeadlocked NoVerdict
 
 module _ (o : Seen) (idle : active o ≡ true → o .out ≡ 0) (waits : active o ≡ false → o .out ≡ 0 → ⊥) where
   abbrev Says : Move → Type 0

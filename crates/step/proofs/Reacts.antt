@@ -10,7 +10,7 @@ use Rattle.records.specs.Records.{State, called, free, withCall, withFreed}
 use Rattle.step.specs.Step.{Seen, Move, active, nobody, sending, move, becomeFree, beCalled, answerWith, onNotify, frees, onGrant, react}
 
 module _ (P : Move → Type 0) (o : Seen) (s : State) where
-  -- being called: by a node that isn't active, by an active one that is free already, by one that isn't
+  -- being called: a node that isn't active, an active one that is free already, and an active one that isn't
   pub called-cases : (by : Why)
       → (active o ≡ false → P (move (withCall by s) (sending Notify (o .out))))
       → (active o ≡ true → free s ≡ true → P (move (withCall by s) nobody))
