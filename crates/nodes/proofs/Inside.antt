@@ -9,7 +9,7 @@ use native.Mathlib.Decide.{decLt, ℕ-discrete}
 use lib.Dec.{eqb}
 use lib.Pow.{pow-pos}
 use borrow.Author.Tests.{eqb-true, eq-eqb}
-use Rattle.lemmas.proofs.Tests.{not-true-false, same-test}
+use Rattle.lemmas.proofs.Tests.{same-test}
 use Rattle.nodes.specs.Sets.{bit, In, union, meet, minus, single, with, below, inside, Inside, keep}
 use Rattle.nodes.proofs.Bit.{bit-le, in-or-out, bit-above, bit-mod, same, bit-empty, empty-same}
 use Rattle.nodes.proofs.Operations.{bit-meet, bit-union, bit-minus, bit-single-other, with-union, bit-with, in-with, below-lt, in-below}
@@ -90,9 +90,6 @@ inside-empty a h = empty-same a (λ k. omega (arith, h k, bit-empty k))
 -- the same as a test
 pub inside-none : (a : ℕ) → inside a 0 ≡ eqb a 0
 inside-none a = same-test _ _ (λ e. eq-eqb a 0 (inside-empty a (inside-of a 0 e))) (λ e. of-inside a 0 (rw (eqb-true a 0 e) (empty-inside 0)))
-
-pub not-inside : (a b k : ℕ) → bit b k < bit a k → inside a b ≡ false
-not-inside a b k h = not-true-false _ (λ e. let q = inside-of a b e k in omega arith)
 
 pub keep-grows : (b : Bool) (k s : ℕ) → Inside s (keep b k s)
 keep-grows true k s = with-grows s k

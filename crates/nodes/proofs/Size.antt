@@ -1,19 +1,19 @@
 -- The size of a set: for every width. Assumes nothing.
 use mathlib.Core.Path.{_≡_, refl, sym, ap, ap₂, _∙_}
-use mathlib.Core.Bool.{Bool}
 use Prim.Native.Nat.{ℕ, zero, suc, _+_, _*_, _/_, _%_, _^_, _≤_, _<_, min, max}
-use native.Mathlib.Nat.{mod-eq-of-lt}
+use native.Mathlib.Nat.{mod-lt}
 use native.Mathlib.Omega.{arith}
-use native.Mathlib.Numerals.{add-one}
 use lib.Dec.{eqb}
 use lib.Arith.{bin-ind, digits-mod, digits-div}
 use lib.Bits.{bitAnd, bitOr, and-step, or-step, and-zero-l, or-zero-l}
+use lib.Count.{ones, ones-step, ones-le}
 use lib.ListN.{length, length-append}
-use Rattle.nodes.specs.Sets.{bit, has, union, meet, minus, Inside, only, members, size}
-use Rattle.nodes.proofs.Bit.{bit-zero, bit-suc, bit-le, has-bit, empty-same, same}
+use lib.Pow.{pow-pos}
+use Rattle.nodes.specs.Sets.{union, meet, minus, Inside, only, members, size}
+use Rattle.nodes.proofs.Bit.{bit-zero, bit-suc, bit-le, empty-same, same}
 use Rattle.nodes.proofs.Operations.{bit-union, bit-meet, bit-minus}
 use Rattle.nodes.proofs.Inside.{inside-both, minus-none}
-use Rattle.nodes.proofs.Members.{from, from-step, from-none, members-from, members-suc, members-none}
+use Rattle.nodes.proofs.Members.{from, from-step, from-none, members-from}
 
 -- ---- it is the length of the list of members
 pub size-members : (s : ℕ) → size s ≡ length (members s)
@@ -42,22 +42,16 @@ size-step s =
 pub size-empty : size 0 ≡ 0
 size-empty = size-members 0 ∙ ap length (members-from 0 ∙ from-none 0)
 
--- one place more, as a walk counts it
-pub size-suc : (s k : ℕ) → size (s % 2 ^ (k + 1)) ≡ size (s % 2 ^ k) + bit s k
-size-suc s k =
-    size-members (s % 2 ^ (k + 1)) ∙ ap length (members-suc s k) ∙ length-append (members (s % 2 ^ k)) (only (has s k) k)
-    ∙ ap₂ (λ (x y : ℕ). x + y) (sym (size-members (s % 2 ^ k)))
-    (ap (λ (b : Bool). length (only b k)) (has-bit s k) ∙ only-length (bit s k) k (bit-le s k))
-
-pub size-none : (s : ℕ) → size (s % 2 ^ 0) ≡ 0
-size-none s = size-members (s % 2 ^ 0) ∙ ap length (members-none s)
-
-pub size-below : (s n : ℕ) → size (s % 2 ^ n) ≤ n
-size-below s zero = omega (arith, size-none s)
-size-below s (suc n) = rw (← add-one n) (omega (arith, size-suc s n, size-below s n, bit-le s n))
+-- it is what the machine counts in a word
+pub size-ones : (s : ℕ) → ones s ≡ size s
+unfolding ones
+size-ones = bin-ind (λ (s : ℕ). ones s ≡ size s) (sym size-empty) (λ s e. ones-step s ∙ ap (λ (x : ℕ). s % 2 + x) e ∙ sym (size-step s))
 
 pub size-le : (w s : ℕ) → s < 2 ^ w → size s ≤ w
-size-le w s h = rw (mod-eq-of-lt h) at (size-below s w)
+size-le w s h = rw (size-ones s) at (ones-le w s h)
+
+pub size-below : (s n : ℕ) → size (s % 2 ^ n) ≤ n
+size-below s n = size-le n (s % 2 ^ n) (mod-lt s (pow-pos n))
 
 -- ---- more members, larger size; the size of a union
 pub size-mono : (a b : ℕ) → Inside a b → size a ≤ size b
