@@ -20,24 +20,24 @@ use Rattle.nodes.specs.Words.{firstOf}
 use Rattle.nodes.proofs.Operations.{in-minus, bit-single-same, bit-single-other}
 use Rattle.nodes.proofs.Members.{from, from-step, from-none, members-from, members-in, members-ascending}
 
-abbrev at : ℕ → Smallest
-at k = At (record { 0 = k })
+abbrev found : ℕ → Smallest
+found k = At (record { 0 = k })
 
 -- ---- past the zeros at a word's low end, which the machine counts
-first-from : (w j s : ℕ) → s < 2 ^ w → (s ≡ 0 → ⊥) → firstOf (from j s) ≡ at (j + trailingZeros w s)
+first-from : (w j s : ℕ) → s < 2 ^ w → (s ≡ 0 → ⊥) → firstOf (from j s) ≡ found (j + trailingZeros w s)
 unfolding trailingZeros
 first-from zero j s h some = absurd (some (lt-one h))
 first-from (suc w) j s h some =
     ap firstOf (from-step j s) ∙ go (s % 2) (omega arith) (λ e. first-from w (suc j) (s / 2) (shr-lt w 1 (rw add-one h)) (λ z. some (omega arith)))
   where
-    go : (d : ℕ) → d < 2 → (d ≡ 0 → firstOf (from (suc j) (s / 2)) ≡ at (suc j + trailingZeros w (s / 2)))
-        → firstOf (only (eqb d 1) j ++ from (suc j) (s / 2)) ≡ at (j + under d (trailingZeros w (s / 2)))
-    go zero h rest = rest refl ∙ ap at (suc-add j _ ∙ sym (add-suc j _))
-    go (suc zero) h rest = ap at (sym (add-zero j))
+    go : (d : ℕ) → d < 2 → (d ≡ 0 → firstOf (from (suc j) (s / 2)) ≡ found (suc j + trailingZeros w (s / 2)))
+        → firstOf (only (eqb d 1) j ++ from (suc j) (s / 2)) ≡ found (j + under d (trailingZeros w (s / 2)))
+    go zero h rest = rest refl ∙ ap found (suc-add j _ ∙ sym (add-suc j _))
+    go (suc zero) h rest = ap found (sym (add-zero j))
     go (suc (suc d)) h rest = absurd (omega arith)
 
-pub first-trailing : (w s : ℕ) → s < 2 ^ w → (s ≡ 0 → ⊥) → at (trailingZeros w s) ≡ firstOf (members s)
-first-trailing w s h some = sym (ap firstOf (members-from s) ∙ first-from w 0 s h some ∙ ap at (zero-add _))
+pub first-trailing : (w s : ℕ) → s < 2 ^ w → (s ≡ 0 → ⊥) → found (trailingZeros w s) ≡ firstOf (members s)
+first-trailing w s h some = sym (ap firstOf (members-from s) ∙ first-from w 0 s h some ∙ ap found (zero-add _))
 
 pub first-none : (s : ℕ) → s ≡ 0 → Nothing ≡ firstOf (members s)
 first-none s e = sym (ap firstOf (ap members e ∙ members-from 0 ∙ from-none 0))

@@ -105,6 +105,7 @@ impl Set {
         u64::count_ones(self.0) as u64
     }
 
+    // It stands past the zeros at the low end of the word. A word of 0 has 64 of them, and no member.
     pub fn smallest(self) -> Smallest
         ensures { λ r. ⌜ r ≡ firstOf (members (num self)) ⌝ }
     {
