@@ -11,7 +11,7 @@ use Rattle.lemmas.proofs.Tests.{not-both, and-right}
 use Rattle.nodes.specs.Sets.{bit, In, Inside, has, with, below, keep, setOf}
 use Rattle.nodes.proofs.Bit.{has-in, in-or-out}
 use Rattle.nodes.proofs.Operations.{bit-with-same, in-below, in-minus}
-use Rattle.nodes.proofs.Inside.{empty-inside, inside-member, inside-both, same-members, with-grows, with-inside, keep-grows}
+use Rattle.nodes.proofs.Inside.{empty-inside, inside-member, inside-both, same-nodes, with-grows, with-inside, keep-grows}
 use Rattle.nodes.proofs.Gather.{list-in, in-list}
 use Rattle.waits.specs.Waits.{Waits, Lawful}
 use Rattle.waits.specs.Deadlocked.{Reduction, Deadlocked}
@@ -108,7 +108,7 @@ module _ (w : Waits) (law : Lawful w) where
 
   -- Theorem: no other set does.
   pub freed-unique : (s : ℕ) → ((i : ℕ) → In i s ↔ Freeable w i) → s ≡ freed w
-  freed-unique s f = same-members s (freed w) (λ i. (λ m. freed-iff i .1 (f i .0 m), λ m. f i .1 (freed-iff i .0 m)))
+  freed-unique s f = same-nodes s (freed w) f freed-iff
 
   -- Theorem: a node is deadlocked exactly if it isn't in that set.
   pub deadlocked-iff : (i : ℕ) → Deadlocked w i ↔ (In i (freed w) → ⊥)

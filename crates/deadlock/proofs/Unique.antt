@@ -8,7 +8,7 @@ use Rattle.lemmas.proofs.Ascending.{ascending-unique}
 use Rattle.nodes.specs.declared.Set.{Set}
 use Rattle.nodes.specs.Sets.{In}
 use Rattle.nodes.specs.Words.{num}
-use Rattle.nodes.proofs.Inside.{same-members}
+use Rattle.nodes.proofs.Inside.{same-nodes}
 use Rattle.nodes.proofs.Words.{same-set}
 use Rattle.waits.specs.declared.numbers.Refusal.{Refusal}
 use Rattle.waits.specs.declared.numbers.Checked.{Checked}
@@ -36,7 +36,7 @@ one-way e f = refused-not-accepted (sym e ∙ f)
 
 -- ---- a set is what its members are
 one-set : (s t : Set) {P : ℕ → Type 0} → ((k : ℕ) → In k (num s) ↔ P k) → ((k : ℕ) → In k (num t) ↔ P k) → s ≡ t
-one-set s t f g = same-set s t (same-members (num s) (num t) (λ k. (λ m. g k .1 (f k .0 m), λ m. f k .1 (g k .0 m))))
+one-set s t f g = same-set s t (same-nodes (num s) (num t) f g)
 
 -- Law: of all claims.
 pub one-found : (n : ℕ) (rows : List ℕ) (x y : Found) → FoundSays n rows x → FoundSays n rows y → x ≡ y

@@ -16,5 +16,7 @@ pub mod Arriving
 pub mod Alone
 pub mod AtOnce
 pub mod Demands
+pub mod SameEnd
+pub mod TwoOrders
 pub mod Computed
 pub mod Table

@@ -1,15 +1,18 @@
 -- From the theorem on many rounds to the bench: what is so of every history of the rules is so of every bench that was worked from a
 -- fresh start. Assumes nothing.
 use mathlib.Core.Path.{_≡_, refl, sym, ap, _∙_, subst}
+use mathlib.Core.Logic.{_↔_}
 use mathlib.Core.List.{List, [], _∷_, _++_, List·Memᴰ}
 use mathlib.Core.List.List·Memᴰ.{List·Memᴰ·head as here}
 use Prim.Native.Nat.{ℕ, _+_, _*_, _≤_, _<_}
 use native.Mathlib.Omega.{arith}
 use lib.ListN.{drop}
+use Rattle.nodes.specs.Sets.{In}
 use Rattle.records.specs.Messages.{Letter}
 use Rattle.waits.specs.declared.numbers.Refusal.{Refusal}
 use Rattle.waits.specs.declared.numbers.Checked.the-variants.{Accepted}
 use Rattle.waits.specs.Waits.{Waits, edges}
+use Rattle.waits.specs.Deadlocked.{Reachable}
 use Rattle.waits.specs.Rows.{waitsOf}
 use Rattle.waits.specs.Numbers.{checkOf}
 use Rattle.waits.proofs.Lawful.{accepted-lawful}
@@ -20,13 +23,13 @@ use Rattle.step.specs.declared.answers.Verdict.{Verdict}
 use Rattle.step.specs.declared.answers.Verdict.the-variants.{Deadlocked}
 use Rattle.lent.specs.declared.steps.Step.{Step}
 use Rattle.bench.specs.Bench.{Bench, After, fresh, room}
-use Rattle.bench.specs.Steps.{letterAt, stepOn}
+use Rattle.bench.specs.Steps.{stepOn}
 use Rattle.rounds.specs.Verdicts.{Right}
-use Rattle.rounds.specs.Ends.{heldIn}
-use Rattle.rounds.specs.History.{Event, since, highestIn, openings, Opened as History·Opened, verdictsOf, standing, AllArrived}
+use Rattle.rounds.specs.Ends.{FreedFrom}
+use Rattle.rounds.specs.History.{Event, since, highestIn, openings, Opened as History·Opened, verdictsOf, AllArrived as History·AllArrived}
 use Rattle.rounds.specs.ManyRounds.{ManyRounds}
 use Rattle.rounds.proofs.ManyRounds.{many-rounds}
-use Rattle.demands.specs.Turns.{Turn, turn, turns, afterSteps, Full, eventOf, heard, Opened, Arrived, verdictsGiven, heldOn}
+use Rattle.demands.specs.Turns.{Turn, turn, turns, afterSteps, Full, eventOf, heard, Opened, AllArrived, verdictsGiven, calledOn, freeOn, heldOn}
 use Rattle.demands.proofs.Said.{not-refused, one-refusal}
 use Rattle.demands.proofs.Stands.{Stands, sent-letter}
 use Rattle.demands.proofs.Onward.{Onward, step-onward}
@@ -34,7 +37,7 @@ use Rattle.demands.proofs.Onward.Onward.{refused, full, taken}
 use Rattle.demands.proofs.Heard.{outcome-accepted, all-stand}
 use Rattle.demands.proofs.Past.{opened-heard, arrived-heard}
 use Rattle.demands.proofs.Verdicts.{given-said}
-use Rattle.demands.proofs.Shown.{held-same}
+use Rattle.demands.proofs.Shown.{called-same, free-same, held-same}
 
 module _ (n : ℕ) (rows messages : List ℕ) (steps : List Step) (ok : checkOf n rows ≡ Accepted) where
   abbrev w : Waits
@@ -64,14 +67,13 @@ module _ (n : ℕ) (rows messages : List ℕ) (steps : List Step) (ok : checkOf 
     newest : History·Opened events s (highestIn events)
     newest = subst (History·Opened events s) (stands .highest) (opened-heard n rows messages steps s (now .highest) opened)
 
-    all-arrived : ((k : ℕ) → k < now .sent → letterAt now k .round ≡ now .highest → Arrived past k) → AllArrived w (highestIn events) events
+    all-arrived : AllArrived (now .highest) now past → History·AllArrived w (highestIn events) events
     all-arrived arrived m i q =
         let (k, h, e) = sent-letter stands m i in
         subst (λ (x : Letter). List·Memᴰ (Event.arrives x) events) e
         (arrived-heard n rows messages steps ok k (arrived k h (ap (λ (x : Letter). x .round) e ∙ q ∙ sym (stands .highest))))
 
-    pub ends : ((k : ℕ) → k < now .sent → letterAt now k .round ≡ now .highest → Arrived past k)
-        → (v : Verdict) × (verdictsGiven (now .highest) past ≡ v ∷ []) × Right w s v
+    pub ends : AllArrived (now .highest) now past → (v : Verdict) × (verdictsGiven (now .highest) past ≡ v ∷ []) × Right w s v
     ends arrived =
         let (v, e) = rules .it-ends s newest (all-arrived arrived) in (
           v,
@@ -79,11 +81,19 @@ module _ (n : ℕ) (rows messages : List ℕ) (steps : List Step) (ok : checkOf 
           rules .verdict-right s (highestIn events) newest v (subst (λ (x : List Verdict). List·Memᴰ v x) (sym e) (here refl)),
         )
 
+    -- what was said, as the rules have it
+    said : (v : Verdict) → List·Memᴰ v (verdictsGiven (now .highest) past) → List·Memᴰ v (verdictsOf w (highestIn events) events)
+    said v = subst (λ (x : List Verdict). List·Memᴰ v x) (given (now .highest) ∙ ap (λ (r : ℕ). verdictsOf w r events) (stands .highest))
+
+    -- the nodes called, and those free, once something was said
+    pub called-reachable : (v : Verdict) → List·Memᴰ v (verdictsGiven (now .highest) past) → (i : ℕ) → In i (calledOn n now) ↔ Reachable w s i
+    called-reachable v gave i = subst (λ (x : ℕ). In i x ↔ Reachable w s i) (sym (called-same stands)) (rules .called-exactly s newest v (said v gave) i)
+
+    pub free-freed : (v : Verdict) → List·Memᴰ v (verdictsGiven (now .highest) past) → (i : ℕ) → In i (freeOn n now) ↔ FreedFrom w s i
+    free-freed v gave i = subst (λ (x : ℕ). In i x ↔ FreedFrom w s i) (sym (free-same stands)) (rules .free-exactly s newest v (said v gave) i)
+
     held-evidence : List·Memᴰ Deadlocked (verdictsGiven (now .highest) past) → Evidence w s (heldOn n now)
-    held-evidence gave =
-        subst (Evidence w s) (sym (held-same stands ∙ ap (λ (r : ℕ). heldIn w (standing r (since w events))) (stands .highest)))
-        (rules .evidence-exactly s newest
-        (subst (λ (x : List Verdict). List·Memᴰ Deadlocked x) (given (now .highest) ∙ ap (λ (r : ℕ). verdictsOf w r events) (stands .highest)) gave))
+    held-evidence gave = subst (Evidence w s) (sym (held-same stands)) (rules .evidence-exactly s newest (said Deadlocked gave))
 
     -- and so it is what was written for s
     pub evidence : List·Memᴰ Deadlocked (verdictsGiven (now .highest) past) → Evidence w s (heldOn n now)

@@ -43,13 +43,13 @@ use Rattle.node.specs.Calls.{openOf, deliverOf}
 use Rattle.lent.specs.declared.steps.Step.{Step}
 use Rattle.lent.specs.Coded.{numberOf}
 use Rattle.bench.specs.Bench.{Bench, fresh, room, after}
-use Rattle.bench.specs.Steps.{letterAt, stepOn}
+use Rattle.bench.specs.Steps.{stepOn}
 use Rattle.bench.specs.Runs.{run, runOf}
 use Rattle.rounds.specs.Verdicts.{Right}
 use Rattle.rounds.specs.Ends.{FreedFrom, leaving, entering}
 use Rattle.rounds.specs.History.{since, History, openings}
 use Rattle.demands.specs.Turns.{afterSteps, Turn, turn, turns, accepted, Full, Unless12, opening, takenSingly}
-use Rattle.demands.specs.Turns.{eventOf, heard, Opened, Arrived, CanAllArrive, verdictsGiven, messagesOf, heldOn}
+use Rattle.demands.specs.Turns.{eventOf, heard, Opened, AllArrived, CanAllArrive, verdictsGiven, messagesOf, heldOn}
 use Rattle.demands.specs.Refusals.{stepLines, runLines}
 
 -- "Any graph of waits, any record, any message or list may be handed in. Nothing undefined happens and every call ends." No call from
@@ -128,7 +128,7 @@ module _ (n : ℕ) (rows : List ℕ) where
       pub one-verdict : (round : ℕ) → length (verdictsGiven round past) ≤ 1
       -- "If no later round is opened, and each message of the newest round arrives at least once, that round ends with the right verdict,
       -- having sent at most four messages for each wait, whatever befell the rounds before it." And each message can arrive.
-      pub ends : (s : ℕ) → Opened past s (now .highest) → ((k : ℕ) → k < now .sent → letterAt now k .round ≡ now .highest → Arrived past k)
+      pub ends : (s : ℕ) → Opened past s (now .highest) → AllArrived (now .highest) now past
           → (v : Verdict) × (verdictsGiven (now .highest) past ≡ v ∷ []) × Right w s v
       pub at-most-four : (round : ℕ) → length (messagesOf round now) ≤ 4 * edges w
       pub can-arrive : 4 * edges w * openings (heard past) ≤ room now → CanAllArrive n rows (fresh n messages) steps

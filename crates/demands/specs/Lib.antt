@@ -3,4 +3,5 @@ pub mod Turns
 pub mod Refusals
 pub mod Alone
 pub mod Demands
+pub mod SameEnd
 pub mod Table

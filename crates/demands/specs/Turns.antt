@@ -1,6 +1,6 @@
 -- A bench, one step after the other: what happened, and what is there. Assumes nothing.
 use mathlib.Core.Path.{_≡_}
-use mathlib.Core.Bool.{Bool, true, false, cond, not, _&&_}
+use mathlib.Core.Bool.{Bool, true, false, cond}
 use mathlib.Core.Logic.{_⊎_}
 use mathlib.Core.List.{List, [], _∷_, _++_, map, reverse, List·Memᴰ}
 use Prim.Native.Nat.{ℕ, _<_}
@@ -8,7 +8,7 @@ use lib.Dec.{eqb}
 use lib.ListN.{take}
 use lib.Seq.{sets}
 use Rattle.lemmas.specs.Lists.{those}
-use Rattle.nodes.specs.Sets.{members, gather}
+use Rattle.nodes.specs.Sets.{minus, members, gather}
 use Rattle.records.specs.Records.{called, free, inRound}
 use Rattle.waits.specs.declared.numbers.Checked.the-variants.{Accepted}
 use Rattle.step.specs.declared.answers.Verdict.{Verdict}
@@ -92,6 +92,10 @@ Opened past s round = (t : Turn) × List·Memᴰ t past × (t .step ≡ opening 
 abbrev pub Arrived : List Turn → ℕ → Type 0
 Arrived past k = (t : Turn) × List·Memᴰ t past × (t .step .kind ≡ 1) × (t .step .a ≡ k) × (accepted (t .gave .answer) ≡ true)
 
+-- every message of a round, of those sent, has arrived at least once
+abbrev pub AllArrived : ℕ → Bench → List Turn → Type 0
+AllArrived round b past = (k : ℕ) → k < b .sent → letterAt b k .round ≡ round → Arrived past k
+
 -- by some deliveries more, every message sent by then has arrived
 abbrev pub CanAllArrive : ℕ → List ℕ → Bench → List Step → Type 0
 CanAllArrive n rows b l = (more : List Step) × ((x : Step) → List·Memᴰ x more → x .kind ≡ 1)
@@ -106,6 +110,12 @@ verdictsGiven round (t ∷ l) = cond (eqb (roundOf (eventOf t)) round) (verdictI
 unfoldable pub messagesOf : ℕ → Bench → List ℕ
 messagesOf round b = those (λ x. eqb (messageOf x .round .0) round) (take (b .sent) (b .messages))
 
--- the nodes called and not free in the highest round opened, ascending
+-- in the highest round opened: the nodes called, those free, and those called and not free, ascending
+unfoldable pub calledOn : ℕ → Bench → ℕ
+calledOn n b = gather (λ i. called (inRound (b .highest) (stateAt (b .records) i))) n
+
+unfoldable pub freeOn : ℕ → Bench → ℕ
+freeOn n b = gather (λ i. free (inRound (b .highest) (stateAt (b .records) i))) n
+
 unfoldable pub heldOn : ℕ → Bench → List ℕ
-heldOn n b = members (gather (λ i. let s = inRound (b .highest) (stateAt (b .records) i) in called s && not (free s)) n)
+heldOn n b = members (minus (calledOn n b) (freeOn n b))

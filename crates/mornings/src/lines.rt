@@ -11,7 +11,7 @@ pub fn about(node: usize) {
     text(b": ");
 }
 
-fn wide(b: u8) -> u64 {
+pub fn wide(b: u8) -> u64 {
     b as u64
 }
 

@@ -1,9 +1,11 @@
-// The paper's mornings: their claims, their rounds and their runs; lists that are offered, and bad input of every kind.
+// The paper's mornings: their claims, their rounds and their runs; lists that are offered, bad input of every kind, and a
+// round in two orders.
 mod claims;
 mod graphs;
 mod lines;
 mod lists;
 mod mornings;
+mod orders;
 mod questions;
 mod refusals;
 mod rounds;
@@ -29,4 +31,6 @@ fn main() {
     say::text(b"\nRuns\n");
     runs::two_nodes();
     runs::rounds();
+    say::text(b"\nOrders\n");
+    orders::both();
 }

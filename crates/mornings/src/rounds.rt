@@ -1,4 +1,5 @@
-// A full round: opened at a node of a fresh bench, every message delivered in its order.
+// A full round: opened at a node of a fresh bench, every message delivered, in the order of their numbers or in another.
+use crate::lines::wide;
 use crate::say::number;
 use crate::say::refusal;
 use crate::say::text;
@@ -44,8 +45,23 @@ fn ended(sent: usize, verdict: Verdict) {
     }
 }
 
-// Delivers every message of a round that was opened.
-fn deliver(nodes: usize, rows: &[u64], records: &mut [u64], messages: &mut [u64], opened: Reply) {
+// Which message comes after k others: as the order says, and past its end message k.
+fn message(order: &[u8], k: usize) -> u64 {
+    if k < order.len() {
+        return wide(order[k]);
+    }
+    k as u64
+}
+
+// Delivers every message of a round that was opened. An order has each once, so when as many came as were sent, all did.
+fn deliver(
+    nodes: usize,
+    rows: &[u64],
+    records: &mut [u64],
+    messages: &mut [u64],
+    opened: Reply,
+    order: &[u8],
+) {
     let first = opened.answer;
     let top = opened.highest;
     let mut sent = opened.sent;
@@ -57,7 +73,7 @@ fn deliver(nodes: usize, rows: &[u64], records: &mut [u64], messages: &mut [u64]
         }
         let s = Step {
             kind: 1,
-            a: k as u64,
+            a: message(order, k),
             b: 0,
         };
         let reply = bench::step(nodes, rows, records, messages, sent, top, s);
@@ -69,7 +85,15 @@ fn deliver(nodes: usize, rows: &[u64], records: &mut [u64], messages: &mut [u64]
     ended(sent, verdict);
 }
 
-fn open(nodes: usize, rows: &[u64], records: &mut [u64], messages: &mut [u64], node: usize) {
+// The rest of a line: what a round from a node comes to, on a fresh bench and in an order.
+pub fn full_round(
+    nodes: usize,
+    rows: &[u64],
+    records: &mut [u64],
+    messages: &mut [u64],
+    node: usize,
+    order: &[u8],
+) {
     let s = Step {
         kind: 0,
         a: node as u64,
@@ -82,14 +106,15 @@ fn open(nodes: usize, rows: &[u64], records: &mut [u64], messages: &mut [u64], n
         refusal(r);
         return;
     }
-    deliver(nodes, rows, records, messages, opened);
+    deliver(nodes, rows, records, messages, opened, order);
 }
 
 // The part of the records that a graph has.
 fn begin(nodes: usize, rows: &[u64], records: &mut [u64], messages: &mut [u64], node: usize) {
     let size = record_numbers(nodes);
     if size <= records.len() {
-        open(nodes, rows, &mut records[..size], messages, node);
+        let none = [0u8; 0];
+        full_round(nodes, rows, &mut records[..size], messages, node, &none);
     }
 }
 

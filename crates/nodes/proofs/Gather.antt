@@ -46,6 +46,13 @@ in-gather f n k i =
     let l = in-lt n (gather f n) k (gather-lt f n) i in
     (l, sym (has-gather f n k l) ∙ in-has _ _ i)
 
+-- two tests that say the same of every node below n
+pub gather-same : (f g : ℕ → Bool) (n : ℕ) → ((k : ℕ) → k < n → f k ≡ g k) → gather f n ≡ gather g n
+gather-same f g n e = same-members _ _ (λ k. (
+  λ m. let p = in-gather f n k m in gather-in g n k (p .0) (sym (e k (p .0)) ∙ p .1),
+  λ m. let p = in-gather g n k m in gather-in f n k (p .0) (e k (p .0) ∙ p .1),
+))
+
 -- one node more, as a loop gathers them
 pub gather-none : (f : ℕ → Bool) → gather f 0 ≡ 0
 unfolding gather

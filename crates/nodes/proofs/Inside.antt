@@ -72,6 +72,10 @@ inside-both a b f g = same a b (λ k. omega (arith, f k, g k))
 pub same-members : (a b : ℕ) → ((k : ℕ) → In k a ↔ In k b) → a ≡ b
 same-members a b f = inside-both a b (inside-in a b (λ k. f k .0)) (inside-in b a (λ k. f k .1))
 
+-- so two sets of exactly the nodes that have a property are one
+pub same-nodes : (a b : ℕ) {P : ℕ → Type 0} → ((k : ℕ) → In k a ↔ P k) → ((k : ℕ) → In k b ↔ P k) → a ≡ b
+same-nodes a b f g = same-members a b (λ k. (λ m. g k .1 (f k .0 m), λ m. f k .1 (g k .0 m)))
+
 -- nobody but nodes below n
 pub inside-lt : (n s : ℕ) → Inside s (below n) → s < 2 ^ n
 inside-lt n s h =

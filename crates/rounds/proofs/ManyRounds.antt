@@ -17,7 +17,6 @@ use Rattle.records.specs.Messages.{Letter}
 use Rattle.waits.specs.Waits.{Waits, Lawful, edges}
 use Rattle.waits.specs.Deadlocked.{Reachable}
 use Rattle.deadlock.specs.Evidence.{Evidence}
-use Rattle.deadlock.proofs.Paths.{reachable-node}
 use Rattle.step.specs.declared.answers.Verdict.{Verdict}
 use Rattle.step.specs.declared.answers.Verdict.the-variants.{Deadlocked}
 use Rattle.rounds.specs.Course.{Stage, after, AllDelivered, ended}
@@ -26,15 +25,13 @@ use Rattle.rounds.specs.Ends.{calledIn, freeIn, heldIn, FreedFrom, leavi
 use Rattle.rounds.specs.OneRound.{OneRound}
 use Rattle.rounds.specs.History.{Event, since, highestIn, History, openings, Opened, ofRound, verdictsOf, standing, AllArrived}
 use Rattle.rounds.specs.ManyRounds.{ManyRounds}
-use Rattle.rounds.proofs.Ended.{reduction-node}
-use Rattle.rounds.proofs.Sets.{in-called, in-free}
-use Rattle.rounds.proofs.OneRound.{one-round}
+use Rattle.rounds.proofs.OneRound.{called-set, free-set, one-round}
 use Rattle.rounds.proofs.Saying.{said-by}
 use Rattle.rounds.proofs.Told.{AsCourse, Told}
 use Rattle.rounds.proofs.Histories.{history-told}
 
 -- ---- the rounds that were opened
-abbrev rounds : List Event → List ℕ
+abbrev pub rounds : List Event → List ℕ
 rounds [] = []
 rounds (Event.opens i round ∷ l) = round ∷ rounds l
 rounds (Event.arrives m ∷ l) = rounds l
@@ -53,7 +50,7 @@ listed-on : (r : ℕ) (rs : List ℕ) (e : Event) → Listed rs e → Listed (r 
 listed-on r rs (Event.opens i round) h = there h
 listed-on r rs (Event.arrives m) h = tt
 
-rounds-listed : (l : List Event) (e : Event) → List·Memᴰ e l → Listed (rounds l) e
+pub rounds-listed : (l : List Event) (e : Event) → List·Memᴰ e l → Listed (rounds l) e
 rounds-listed (Event.opens i round ∷ l) e (here q) = subst (Listed (round ∷ rounds l)) (sym q) (here refl)
 rounds-listed (Event.opens i round ∷ l) e (there m) = listed-on round (rounds l) e (rounds-listed l e m)
 rounds-listed (Event.arrives m ∷ l) e (here q) = subst (Listed (rounds l)) (sym q) tt
@@ -101,17 +98,11 @@ module _ (w : Waits) (lawful : Lawful w) (l : List Event) (history : History w l
     four = subst (λ (x : List Letter). length x ≤ 4 * edges w) (sym (course .runs .sent)) (right .at-most-four)
 
     -- at the end the nodes called are the set of those reachable, and the nodes free that of those freed
-    called-set : ended w s now ≡ true → (i : ℕ) → In i (calledIn w now) ↔ Reachable w s i
-    called-set end i = (
-      λ m. right .called-exactly end i .0 (in-called w now i .0 m .1),
-      λ r. in-called w now i .1 (reachable-node w lawful (told .node s round o) r, right .called-exactly end i .1 r),
-    )
+    called : ended w s now ≡ true → (i : ℕ) → In i (calledIn w now) ↔ Reachable w s i
+    called = called-set w lawful s (told .node s round o) round (course .delivered) (course .runs .course)
 
-    free-set : ended w s now ≡ true → (i : ℕ) → In i (freeIn w now) ↔ FreedFrom w s i
-    free-set end i = (
-      λ m. right .free-exactly end i .0 (in-free w now i .0 m .1),
-      λ f. in-free w now i .1 (reduction-node w (f .0) i (f .1 .0) (f .2), right .free-exactly end i .1 f),
-    )
+    free : ended w s now ≡ true → (i : ℕ) → In i (freeIn w now) ↔ FreedFrom w s i
+    free = free-set w lawful s (told .node s round o) round (course .delivered) (course .runs .course)
 
     count-exactly : (v : Verdict) → List·Memᴰ v (verdictsOf w round l) → (reachable : ℕ) × (freed : ℕ)
         × ((i : ℕ) → In i reachable ↔ Reachable w s i) × ((i : ℕ) → In i freed ↔ FreedFrom w s i)
@@ -120,9 +111,9 @@ module _ (w : Waits) (lawful : Lawful w) (l : List Event) (history : History w l
         let end = has-ended v m in (
           calledIn w now,
           freeIn w now,
-          called-set end,
-          free-set end,
-          ap (λ (x : List Letter). length x) (course .runs .sent) ∙ right .count-exactly end (calledIn w now) (freeIn w now) (called-set end) (free-set end),
+          called end,
+          free end,
+          ap (λ (x : List Letter). length x) (course .runs .sent) ∙ right .count-exactly end (calledIn w now) (freeIn w now) (called end) (free end),
         )
 
   -- ---- the newest round
@@ -146,6 +137,14 @@ module _ (w : Waits) (lawful : Lawful w) (l : List Event) (history : History w l
     -- no record has gone past it, so all stand in it as the course left them
     standing-so : standing (highestIn l) (since w l) ≡ now s (highestIn l) o
     standing-so = λ j. record { records = λ i. newest .runs .kept i (told .low i) j; sent = newest .runs .sent j }
+
+    called-exactly : (v : Verdict) → List·Memᴰ v (verdictsOf w (highestIn l) l) → (i : ℕ) → In i (calledIn w (standing (highestIn l) (since w l))) ↔ Reachable w s i
+    called-exactly v m i =
+        subst (λ (x : Stage). In i (calledIn w x) ↔ Reachable w s i) (sym standing-so) (called s (highestIn l) o (has-ended s (highestIn l) o v m) i)
+
+    free-exactly : (v : Verdict) → List·Memᴰ v (verdictsOf w (highestIn l) l) → (i : ℕ) → In i (freeIn w (standing (highestIn l) (since w l))) ↔ FreedFrom w s i
+    free-exactly v m i =
+        subst (λ (x : Stage). In i (freeIn w x) ↔ FreedFrom w s i) (sym standing-so) (free s (highestIn l) o (has-ended s (highestIn l) o v m) i)
 
     evidence-exactly : List·Memᴰ Deadlocked (verdictsOf w (highestIn l) l) → Evidence w s (heldIn w (standing (highestIn l) (since w l)))
     evidence-exactly m =
@@ -207,5 +206,7 @@ module _ (w : Waits) (lawful : Lawful w) (l : List Event) (history : History w l
     at-most-four = each-four;
     at-most-in-all = in-all;
     count-exactly = count-exactly;
+    called-exactly = called-exactly;
+    free-exactly = free-exactly;
     evidence-exactly = evidence-exactly;
   }

@@ -10,7 +10,7 @@ use Rattle.lemmas.proofs.Once.{once-map}
 use Rattle.lemmas.proofs.Tests.{not-both, true-or-false, not-true-false}
 use Rattle.nodes.specs.Sets.{In}
 use Rattle.nodes.proofs.Bit.{in-has}
-use Rattle.nodes.proofs.Inside.{same-members}
+use Rattle.nodes.proofs.Inside.{same-nodes}
 use Rattle.nodes.proofs.Members.{members-ascending}
 use Rattle.records.specs.declared.messages.Kind.{Kind}
 use Rattle.records.specs.Messages.{Letter}
@@ -98,18 +98,18 @@ module _ (w : Waits) (lawful : Lawful w) (s : ℕ) (node : s < w .nodes) (round 
     right-at-end true f v m = subst (Right w s) (sym (List·Memᴰ·eq-of-singleton m)) (λ d. let r = free-rightly s f in d (r .0) (r .1) (r .2))
     right-at-end false f v m = subst (Right w s) (sym (List·Memᴰ·eq-of-singleton m)) (member-deadlocked s (held f))
 
-    -- sets are determined by their members
-    as-called : (reachable : ℕ) → ((i : ℕ) → In i reachable ↔ Reachable w s i) → calledIn w now ≡ reachable
-    as-called reachable r = same-members _ _ (λ i. (
-      λ m. r i .1 (called-exactly i .0 (in-called w now i .0 m .1)),
-      λ m. let c = called-exactly i .1 (r i .0 m) in in-called w now i .1 (called-node (good .invariant) i c, c),
-    ))
+    -- as sets
+    pub called-set : (i : ℕ) → In i (calledIn w now) ↔ Reachable w s i
+    called-set i = (
+      λ m. called-exactly i .0 (in-called w now i .0 m .1),
+      λ r. let c = called-exactly i .1 r in in-called w now i .1 (called-node (good .invariant) i c, c),
+    )
 
-    as-free : (freed : ℕ) → ((i : ℕ) → In i freed ↔ FreedFrom w s i) → freeIn w now ≡ freed
-    as-free freed f = same-members _ _ (λ i. (
-      λ m. f i .1 (free-exactly i .0 (in-free w now i .0 m .1)),
-      λ m. let c = free-exactly i .1 (f i .0 m) in in-free w now i .1 (free-node (good .invariant) i c, c),
-    ))
+    pub free-set : (i : ℕ) → In i (freeIn w now) ↔ FreedFrom w s i
+    free-set i = (
+      λ m. free-exactly i .0 (in-free w now i .0 m .1),
+      λ f. let c = free-exactly i .1 f in in-free w now i .1 (free-node (good .invariant) i c, c),
+    )
 
     all-delivered : AllDelivered l now
     all-delivered m i =
@@ -158,7 +158,8 @@ module _ (w : Waits) (lawful : Lawful w) (s : ℕ) (node : s < w .nodes) (round 
     called-exactly = called-exactly;
     free-exactly = free-exactly;
     count-exactly = λ end reachable freed r f.
-        all-owed (good .invariant) (good .sending) end ∙ λ k. 2 * leaving w (as-called end reachable r k) + 2 * entering w (as-free end freed f k);
+        all-owed (good .invariant) (good .sending) end
+        ∙ λ k. 2 * leaving w (same-nodes _ _ (called-set end) r k) + 2 * entering w (same-nodes _ _ (free-set end) f k);
     all-delivered = all-delivered;
     evidence-exactly = evidence-exactly;
     never-stray = never-stray;

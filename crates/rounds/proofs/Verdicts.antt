@@ -16,11 +16,21 @@ use Rattle.step.specs.declared.answers.Verdict.the-variants.{NoVerdict, Deadloc
 use Rattle.step.specs.Step.{Seen, Outcome, seenIn, complete, newly, verdictOf, openRound}
 use Rattle.step.proofs.Taken.{take-answer, open-says, open-begins}
 use Rattle.rounds.specs.Course.{Stage, put, unheard, reply, after, Course, ended}
-use Rattle.rounds.specs.Verdicts.{given, verdictIn, verdicts}
+use Rattle.rounds.specs.Verdicts.{given, verdictIn, verdicts, Right}
 use Rattle.rounds.proofs.Put.{put-same, put-other, put-still}
 use Rattle.rounds.proofs.Delivery.{Takes, repeats-or-takes, delivery-goes}
 use Rattle.rounds.proofs.Courses.{Good, course-good}
 use Rattle.rounds.proofs.Ended.{all-had}
+
+-- of a node one verdict is right
+pub one-right : (w : Waits) (s : ℕ) (u v : Verdict) → Right w s u → Right w s v → u ≡ v
+one-right w s NoVerdict v p q = absurd p
+one-right w s Deadlocked NoVerdict p q = absurd q
+one-right w s Deadlocked Deadlocked p q = refl
+one-right w s Deadlocked NotDeadlocked p q = absurd (q p)
+one-right w s NotDeadlocked NoVerdict p q = absurd q
+one-right w s NotDeadlocked Deadlocked p q = absurd (p q)
+one-right w s NotDeadlocked NotDeadlocked p q = refl
 
 -- a free node's verdict, and another's
 abbrev pub byFree : Bool → List Verdict

@@ -12,7 +12,7 @@ use Rattle.deadlock.specs.Evidence.{Evidence}
 use Rattle.step.specs.declared.answers.Verdict.{Verdict}
 use Rattle.step.specs.declared.answers.Verdict.the-variants.{Deadlocked}
 use Rattle.rounds.specs.Verdicts.{Right}
-use Rattle.rounds.specs.Ends.{heldIn, FreedFrom, leaving, entering}
+use Rattle.rounds.specs.Ends.{calledIn, freeIn, heldIn, FreedFrom, leaving, entering}
 use Rattle.rounds.specs.History.{Event, since, highestIn, openings, Opened, ofRound, verdictsOf, standing, AllArrived}
 
 pub record ManyRounds (w : Waits) (l : List Event) : Type 0 where
@@ -31,9 +31,14 @@ pub record ManyRounds (w : Waits) (l : List Event) : Type 0 where
   pub at-most-four : (round : ℕ) → length (ofRound round (since w l .sent)) ≤ 4 * edges w
   pub at-most-in-all : length (since w l .sent) ≤ 4 * edges w * openings l
   -- A round that has given its verdict has sent exactly the paper's count, by the set of the nodes reachable from its initiator and by
-  -- that of the nodes freed from there. If it is the newest and ended deadlocked, its evidence is the nodes called and not free in it.
+  -- that of the nodes freed from there. If it is the newest, the nodes called in it are the former and the nodes free in it the latter;
+  -- and if it ended deadlocked, its evidence is those called and not free.
   pub count-exactly : (s round : ℕ) → Opened l s round → (v : Verdict) → List·Memᴰ v (verdictsOf w round l) → (reachable : ℕ) × (freed : ℕ)
       × ((i : ℕ) → In i reachable ↔ Reachable w s i) × ((i : ℕ) → In i freed ↔ FreedFrom w s i)
       × (length (ofRound round (since w l .sent)) ≡ 2 * leaving w reachable + 2 * entering w freed)
+  pub called-exactly : (s : ℕ) → Opened l s (highestIn l) → (v : Verdict) → List·Memᴰ v (verdictsOf w (highestIn l) l)
+      → (i : ℕ) → In i (calledIn w (standing (highestIn l) (since w l))) ↔ Reachable w s i
+  pub free-exactly : (s : ℕ) → Opened l s (highestIn l) → (v : Verdict) → List·Memᴰ v (verdictsOf w (highestIn l) l)
+      → (i : ℕ) → In i (freeIn w (standing (highestIn l) (since w l))) ↔ FreedFrom w s i
   pub evidence-exactly : (s : ℕ) → Opened l s (highestIn l) → List·Memᴰ Deadlocked (verdictsOf w (highestIn l) l)
       → Evidence w s (heldIn w (standing (highestIn l) (since w l)))

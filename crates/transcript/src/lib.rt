@@ -40,7 +40,7 @@ fn message(room: &mut [u8], at: usize, k: usize, m: Message) -> usize
 }
 
 // The lines of the messages sent.
-fn messages(room: &mut [u8], at: usize, list: &[u64], sent: usize) -> usize
+pub fn messages(room: &mut [u8], at: usize, list: &[u64], sent: usize) -> usize
     requires { ⌜ sent ≤ length (now list) ⌝ }
     ensures { λ r. ⌜ text (now (room .exit)) r ≡ write (text (now (room .entry)) at) (messageLines 0 (take sent (now (list .entry)))) ⌝ }
 {

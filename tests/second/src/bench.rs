@@ -1,8 +1,8 @@
 //! The bench: all nodes of a graph, every message ever sent, and steps that open rounds or deliver.
 
-use crate::graph::Graph;
+use crate::graph::{Graph, NodeSet};
 use crate::message::Message;
-use crate::node::{self, Change, Delivery, Record, Verdict};
+use crate::node::{self, Call, Change, Delivery, Freed, Record, Verdict};
 use std::fmt;
 
 pub const LAST_ROUND: u64 = 65_535;
@@ -64,6 +64,19 @@ impl Bench {
 
     pub fn room(&self) -> usize {
         self.lent.min(MOST_ROOM) as usize
+    }
+
+    pub fn called_in(&self, round: u64) -> NodeSet {
+        self.with_record(|record| record.round == round && record.call != Call::NotCalled)
+    }
+
+    pub fn free_in(&self, round: u64) -> NodeSet {
+        self.with_record(|record| record.round == round && record.freed != Freed::NotFree)
+    }
+
+    fn with_record(&self, such: impl Fn(&Record) -> bool) -> NodeSet {
+        let nodes = 0..self.records.len();
+        nodes.filter(|node| such(&self.records[*node])).collect()
     }
 
     pub fn step(&mut self, step: Step) -> Answer {

@@ -3,7 +3,7 @@
 
 use crate::bench::{Answer, Bench, Step, DELIVER, OPEN};
 use crate::graph::{Graph, NodeSet};
-use crate::node::{Call, Freed, Verdict};
+use crate::node::Verdict;
 use crate::reduction::{deadlocked, evidence, freed_from, reachable};
 use crate::replay::Outcome;
 use std::collections::BTreeSet;
@@ -76,38 +76,34 @@ impl Laws {
         self.must(stuck == (verdict == Verdict::Deadlocked), || {
             format!("round {round} says {verdict:?}, the reduction otherwise")
         });
+        let reached = reachable(&bench.graph, node);
+        let freed = freed_from(&bench.graph, &reached);
         let of_it = bench.sent.iter().filter(|message| message.round == round);
         let sent = of_it.count();
-        self.must(sent == sent_by_a_round(&bench.graph, node), || {
+        self.must(sent == count(&bench.graph, &reached, &freed), || {
             format!("round {round} has sent {sent}, not as the paper counts")
         });
-        if stuck && round == bench.highest {
-            let called = called_and_not_free(bench, round);
-            self.must(called == evidence(&bench.graph, node), || {
-                format!("round {round} has not called its evidence")
+        if round == bench.highest {
+            // The graph and the initiator say who these are, so the order of the messages can't.
+            let (called, free) = (bench.called_in(round), bench.free_in(round));
+            self.must(called == reached, || {
+                format!("round {round} has called {called:?}, not whom its initiator reaches")
             });
+            self.must(free == freed, || {
+                format!("round {round} has freed {free:?}, not whom the reduction frees")
+            });
+            self.must(
+                !stuck || &called - &free == evidence(&bench.graph, node),
+                || format!("round {round} has not called its evidence"),
+            );
         }
     }
 }
 
 /// The paper's count: two for each edge leaving a reachable node, and two for each edge entering a node freed by a
 /// reduction that starts only from reachable active nodes.
-fn sent_by_a_round(graph: &Graph, node: usize) -> usize {
-    let reached = reachable(graph, node);
-    let freed = freed_from(graph, &reached);
-    let leaving: usize = reached
-        .iter()
-        .map(|node| graph.nodes[*node].out.len())
-        .sum();
-    let entering: usize = freed.iter().map(|node| graph.nodes[*node].into.len()).sum();
-    2 * leaving + 2 * entering
-}
-
-fn called_and_not_free(bench: &Bench, round: u64) -> NodeSet {
-    let asked = |node: &usize| {
-        let record = &bench.records[*node];
-        let called = record.round == round && record.call != Call::NotCalled;
-        called && record.freed == Freed::NotFree
-    };
-    (0..bench.records.len()).filter(asked).collect()
+fn count(graph: &Graph, reached: &NodeSet, freed: &NodeSet) -> usize {
+    let out = reached.iter().map(|node| graph.nodes[*node].out.len());
+    let into = freed.iter().map(|node| graph.nodes[*node].into.len());
+    2 * out.sum::<usize>() + 2 * into.sum::<usize>()
 }

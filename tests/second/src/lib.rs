@@ -14,6 +14,7 @@ pub mod drawn_questions;
 pub mod drawn_rows;
 pub mod drawn_steps;
 pub mod forms;
+pub mod full_round;
 pub mod graph;
 pub mod laws;
 pub mod lent;

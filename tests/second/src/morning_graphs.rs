@@ -73,6 +73,11 @@ pub fn morning_10() -> Rows {
     ])
 }
 
+/// Not of the paper: node 2 is called by 1 or by 3, whichever's NOTIFY comes first.
+pub fn two_callers() -> Rows {
+    Rows::of(&[all(&[2, 3]), ACTIVE, all(&[1, 2])])
+}
+
 pub fn active_nodes(count: usize) -> Rows {
     Rows::of(&vec![ACTIVE; count])
 }

@@ -1,9 +1,10 @@
 //! `mornings`: what is found about the paper's mornings, every answer computed here.
 
-use crate::bench::{Answer, Bench, Step, DELIVER, MOST_ROOM, OPEN};
+use crate::bench::{Step, DELIVER, MOST_ROOM, OPEN};
+use crate::full_round::{FullRound, Order, NEWEST_FIRST, OLDEST_FIRST};
 use crate::graph::{Refusal, Row, Rows};
 use crate::morning_graphs::*;
-use crate::node::Verdict;
+use crate::node::{Call, Verdict};
 use crate::questions;
 use crate::reduction::{self, Ring};
 use crate::replay;
@@ -17,6 +18,7 @@ pub fn text() -> String {
         ("Questions", hard_questions()),
         ("Bad graphs", bad_graphs()),
         ("Runs", runs()),
+        ("Orders", orders()),
     ];
     let texts = parts.map(|(title, lines)| format!("{title}\n{}\n", lines.join("\n")));
     texts.join("\n")
@@ -201,33 +203,53 @@ fn about_node(rows: &Rows, node: u64) -> String {
     let mut room = [0u8; 64];
     let written = questions::write_evidence(rows, node, &mut room);
     let evidence = said(written, |written| listed(&room[..written]));
-    let round = full_round(rows, node);
+    let round = about_round(rows, node);
     format!("node {node}: {claim}, {ring}, evidence {evidence}, a round {round}")
 }
 
-/// Opens round 1 on a fresh bench and delivers every message in the order of the numbers.
-fn full_round(rows: &Rows, node: u64) -> String {
-    let Ok(graph) = rows.graph() else {
-        return String::from("is refused 13 row 0");
-    };
-    let mut bench = Bench::fresh(graph, MOST_ROOM);
-    let mut answers = vec![bench.step([OPEN, node, 1])];
-    let mut next = 0;
-    while next < bench.sent.len() {
-        answers.push(bench.step([DELIVER, next as u64, 0]));
-        next += 1;
+fn about_round(rows: &Rows, node: u64) -> String {
+    match rows.graph() {
+        Ok(graph) => outcome(&FullRound::run(graph, MOST_ROOM, node, OLDEST_FIRST)),
+        Err(_) => String::from("is refused 13 row 0"),
     }
-    let mut says = "nothing";
-    for answer in answers {
-        match answer {
-            Answer::Refused(number) => return format!("is refused {number} row 0"),
-            Answer::Opened(Some(given)) | Answer::Taken(Some(given)) => {
-                says = deadlocked_or_not(given == Verdict::Deadlocked)
-            }
-            _ => {}
+}
+
+fn outcome(round: &FullRound) -> String {
+    if let Some(number) = round.refusal() {
+        return format!("is refused {number} row 0");
+    }
+    let verdict = round.verdict();
+    let says = verdict.map_or("nothing", |verdict| {
+        deadlocked_or_not(verdict == Verdict::Deadlocked)
+    });
+    format!("sends {} and says {says}", round.bench.sent.len())
+}
+
+/// One round in two orders: the same end, with another caller and other messages.
+fn orders() -> Vec<String> {
+    let mut lines = about_order("oldest first", OLDEST_FIRST);
+    lines.extend(about_order("newest first", NEWEST_FIRST));
+    lines
+}
+
+fn about_order(label: &str, order: Order) -> Vec<String> {
+    let Ok(graph) = two_callers().graph() else {
+        unreachable!("its rows are accepted");
+    };
+    let round = FullRound::run(graph, 12, 0, order);
+    let (outcome, bench) = (outcome(&round), round.bench);
+    let (called, free) = (listed(bench.called_in(1)), listed(bench.free_in(1)));
+    let mut lines = vec![format!(
+        "{label}: a round {outcome}, called {called}, free {free}"
+    )];
+    for (node, record) in bench.records.iter().enumerate() {
+        if let Call::By(caller) = record.call {
+            lines.push(format!("node {node} called by {caller}"));
         }
     }
-    format!("sends {} and says {says}", bench.sent.len())
+    let messages = bench.sent.iter().enumerate();
+    lines.extend(messages.map(|(number, message)| format!("message {number} {message}")));
+    lines
 }
 
 fn about_list(rows: &Rows, node: u64, list: &[u8]) -> String {

@@ -8,14 +8,17 @@ use Rattle.mornings.proofs.rounds.begin.Tie as tie
 record-numbers-requires : tie.Need-record-numbers-requires
 record-numbers-requires c κs = search needs
 
-slice-relend-prefix-open : tie.Need-slice-relend-prefix-open
-slice-relend-prefix-open c = search needs
+slice-relend-prefix-full-round : tie.Need-slice-relend-prefix-full-round
+slice-relend-prefix-full-round c = search needs
 
-slice-aggregate-open : tie.Need-slice-aggregate-open
-slice-aggregate-open c = sym (length-take-le _ _ (c .before .if1 .taken))
+slice-aggregate-full-round : tie.Need-slice-aggregate-full-round
+slice-aggregate-full-round c = sym (length-take-le _ _ (c .before .if1 .taken))
 
-open-requires : tie.Need-open-requires
-open-requires c κs = search needs
+slice-aggregate-full-round-2 : tie.Need-slice-aggregate-full-round-2
+slice-aggregate-full-round-2 c = search needs
+
+full-round-requires : tie.Need-full-round-requires
+full-round-requires c κs = search needs
 
 same-length : tie.Need-same-length
 same-length c = search needs
@@ -34,9 +37,10 @@ begin-spec =
     tie.close
     (tie.spec
     record-numbers-requires
-    slice-relend-prefix-open
-    slice-aggregate-open
-    open-requires
+    slice-relend-prefix-full-round
+    slice-aggregate-full-round
+    slice-aggregate-full-round-2
+    full-round-requires
     same-length
     same-length-2
     returns

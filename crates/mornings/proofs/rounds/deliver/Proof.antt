@@ -8,16 +8,19 @@ use Rattle.mornings.proofs.rounds.deliver.Statement.{statement}
 use Rattle.mornings.proofs.rounds.deliver.Tie as tie
 
 abbrev Inv-loop : tie.InvT-loop
-Inv-loop nodes rows records₀ messages₀ top sent₀ verdict₀ k₀ records messages sent verdict k = (k ≤ 4096) × (length records ≡ length records₀) × (length messages ≡ length messages₀)
+Inv-loop nodes rows records₀ messages₀ order top sent₀ verdict₀ k₀ records messages sent verdict k = (k ≤ 4096) × (length records ≡ length records₀) × (length messages ≡ length messages₀)
 
 abbrev μ-loop : tie.MeasureT-loop
-μ-loop nodes rows records₀ messages₀ top sent₀ verdict₀ k₀ records messages sent verdict k = 4096 - k
+μ-loop nodes rows records₀ messages₀ order top sent₀ verdict₀ k₀ records messages sent verdict k = 4096 - k
 
 heard-requires : tie.Need-heard-requires Inv-loop μ-loop
 heard-requires c κs = search needs
 
 loop-holds : tie.Need-loop-holds Inv-loop μ-loop
 loop-holds c = (search needs, refl, refl)
+
+message-requires : tie.Need-message-requires Inv-loop μ-loop
+message-requires c κs = search needs
 
 step-requires : tie.Need-step-requires Inv-loop μ-loop
 step-requires c κs = search needs
@@ -26,13 +29,13 @@ heard-requires-2 : tie.Need-heard-requires-2 Inv-loop μ-loop
 heard-requires-2 c κs = search needs
 
 add-k : tie.Need-add-k Inv-loop μ-loop
-add-k c = let h = (c .before .before .before .before .before .before .before .before .before .loop-test .taken) in omega (arith, h)
+add-k c = let h = (c .before .before .before .before .before .before .before .before .before .before .loop-test .taken) in omega (arith, h)
 
 loop-less : tie.Need-loop-less Inv-loop μ-loop
-loop-less c = let h = (c .before .before .before .before .before .before .before .before .before .loop-test .taken) in omega (arith, h)
+loop-less c = let h = (c .before .before .before .before .before .before .before .before .before .before .loop-test .taken) in omega (arith, h)
 
 loop-again : tie.Need-loop-again Inv-loop μ-loop
-loop-again c = ((let h = (c .before .before .before .before .before .before .before .before .before .loop-test .taken) in omega (arith, h)), (c .before .before .before .before .before .step .kept .1 .1 .0) ∙ (c .before .before .before .before .before .before .before .before .before .before .loop .inv .1), (c .before .before .before .before .before .step .kept .1 .1 .1 .0) ∙ (c .before .before .before .before .before .before .before .before .before .before .loop .inv .2))
+loop-again c = ((let h = (c .before .before .before .before .before .before .before .before .before .before .loop-test .taken) in omega (arith, h)), (c .before .before .before .before .before .step .kept .1 .1 .0) ∙ (c .before .before .before .before .before .before .before .before .before .before .before .loop .inv .1), (c .before .before .before .before .before .step .kept .1 .1 .1 .0) ∙ (c .before .before .before .before .before .before .before .before .before .before .before .loop .inv .2))
 
 ended-requires : tie.Need-ended-requires Inv-loop μ-loop
 ended-requires c κs = search needs
@@ -54,6 +57,7 @@ deliver-spec =
     μ-loop
     heard-requires
     loop-holds
+    message-requires
     step-requires
     heard-requires-2
     add-k
