@@ -45,7 +45,7 @@ way-places w b (refused number h) = refl
 way-places w b (opened i round h e) = join-places b round i (openRound (seenIn w i) round)
 way-places w b (arrived k h) = join-places b (b .highest) _ _
 
-step-places : (n : ℕ) (rows : List ℕ) (b : Bench) → Good n rows b → (x : Step) → length (stepOn n rows b x .bench .messages) ≡ length (b .messages)
+pub step-places : (n : ℕ) (rows : List ℕ) (b : Bench) → Good n rows b → (x : Step) → length (stepOn n rows b x .bench .messages) ≡ length (b .messages)
 step-places n rows b good x =
     subst (λ (a : After). length (a .bench .messages) ≡ length (b .messages)) (step-taken n rows b good x) (way-places (waitsOf n rows) b (step-way (waitsOf n rows) b x))
 

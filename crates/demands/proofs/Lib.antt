@@ -17,6 +17,7 @@ pub mod Alone
 pub mod AtOnce
 pub mod Demands
 pub mod SameEnd
+pub mod SuchRuns
 pub mod TwoOrders
 pub mod Computed
 pub mod Table

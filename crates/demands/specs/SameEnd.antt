@@ -1,13 +1,17 @@
--- The same end, whatever the order: two runs of one round each, over the same graph and from the same node, which ../proofs/SameEnd.antt
--- shows to end alike. Assumes nothing.
+-- The same end, whatever the order: two runs of one round each, over the same graph and from the same node. ../proofs/SameEnd.antt
+-- shows that they end alike, and ../proofs/SuchRuns.antt that there are such runs. Assumes nothing.
 use mathlib.Core.Path.{_≡_}
 use mathlib.Core.List.{List, [], _∷_}
-use Prim.Native.Nat.{ℕ}
+use Prim.Native.Nat.{ℕ, _*_, _≤_, _<_}
+use lib.ListN.{length}
+use Rattle.records.specs.Rounds.{lastRound}
 use Rattle.waits.specs.declared.numbers.Checked.the-variants.{Accepted}
+use Rattle.waits.specs.Waits.{edges}
+use Rattle.waits.specs.Rows.{waitsOf}
 use Rattle.waits.specs.Numbers.{checkOf}
 use Rattle.step.specs.declared.answers.Verdict.{Verdict}
 use Rattle.lent.specs.declared.steps.Step.{Step}
-use Rattle.bench.specs.Bench.{Bench, fresh}
+use Rattle.bench.specs.Bench.{Bench, fresh, roomOf}
 use Rattle.demands.specs.Turns.{afterSteps, Turn, turns, Opened, AllArrived, verdictsGiven, calledOn, freeOn}
 
 -- A run: the list lent for messages, of any length and with anything in its places, and the steps that were taken, the newest first,
@@ -42,3 +46,9 @@ module _ (n : ℕ) (rows : List ℕ) where
 abbrev pub WhateverTheOrder : Type 0
 WhateverTheOrder = (n : ℕ) (rows : List ℕ) → checkOf n rows ≡ Accepted
     → (s : ℕ) (a b : Log) (p q : ℕ) → OneRoundFrom n rows s a p → OneRoundFrom n rows s b q → SameEnd n rows a b p q
+
+-- And there are such runs: from every node of every accepted graph, in a round of any number, in any room for four messages an edge.
+abbrev pub ThereAreSuchRuns : Type 0
+ThereAreSuchRuns = (n : ℕ) (rows : List ℕ) → checkOf n rows ≡ Accepted → (s round : ℕ) → s < n → (0 < round) × (round ≤ lastRound)
+    → (messages : List ℕ) → 4 * edges (waitsOf n rows) ≤ roomOf (length messages)
+    → (steps : List Step) × OneRoundFrom n rows s (record { messages = messages; steps = steps }) round
