@@ -28,8 +28,8 @@ module _ (n : ℕ) (rows : List ℕ) where
   abbrev pub past : Log → List Turn
   past a = turns n rows (fresh n (a .messages)) (a .steps)
 
-  -- "each with one round from the same initiator, and every message of that round delivered at least once." A delivery that was refused
-  -- for want of room isn't one, so the room was large enough.
+  -- "each with one round from the same initiator, no cut, and every message of that round delivered at least once." A bench has no cuts.
+  -- A delivery that was refused for want of room isn't one, so the room was large enough.
   pub record OneRoundFrom (s : ℕ) (a : Log) (round : ℕ) : Type 0 where
     pub opened : Opened (past a) s round
     pub no-other : (t other : ℕ) → Opened (past a) t other → other ≡ round

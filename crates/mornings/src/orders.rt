@@ -17,8 +17,13 @@ const NODES: usize = 3;
 // 1 = 2 ∧ 3, 2 active, 3 = 1 ∧ 2: the NOTIFY that comes first calls 2, that of 1 or that of 3.
 const ROWS: [u64; 18] = [2, 0, 0b110, 0, 0, 0, 0, 0, 0, 0, 0, 0, 2, 0, 0b011, 0, 0, 0];
 
+// Seven numbers for each node.
+const KEPT: usize = 21;
+
+// How many messages the round sends, in any order.
 const SENT: usize = 12;
 
+// Which message is delivered after which.
 const OLDEST_FIRST: [u8; 12] = [0, 1, 2, 3, 4, 5, 6, 7, 8, 9, 10, 11];
 
 const NEWEST_FIRST: [u8; 12] = [1, 3, 5, 6, 4, 7, 8, 2, 9, 10, 0, 11];
@@ -61,6 +66,7 @@ fn caller(k: usize, call: Cause) {
     }
 }
 
+// A line on each of them.
 fn callers(records: &[u64])
     requires { ⌜ length (now records) ≡ 21 ⌝ }
 {
@@ -75,7 +81,7 @@ fn callers(records: &[u64])
 
 // The room is just what the messages take.
 fn ordered(label: &[u8], order: &[u8]) {
-    let mut records = [0u64; 21];
+    let mut records = [0u64; KEPT];
     let mut sent = [0u64; SENT];
     let mut room = [0u8; 512];
     text(label);

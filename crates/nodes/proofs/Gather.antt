@@ -4,16 +4,16 @@ use mathlib.Core.Bool.{Bool, true, false}
 use mathlib.Core.Logic.{_⊎_, inl, inr, ⊎-elim, _↔_}
 use mathlib.Core.List.{List, [], _∷_, _++_, List·Memᴰ, List·Memᴰ·append-cases, List·Memᴰ·eq-of-singleton, Memᴰ·append-left, Memᴰ·append-right}
 use mathlib.Core.List.List·Memᴰ.{List·Memᴰ·head as here, List·Memᴰ·tail as there}
-use Prim.Native.Nat.{ℕ, zero, suc, _+_, _-_, _^_, _<_}
+use Prim.Native.Nat.{ℕ, zero, suc, _+_, _^_, _<_}
 use native.Mathlib.Nat.{le-of-suc-le-suc, not-suc-le-zero, lt-of-lt-of-le, eq-or-lt-of-le, le-refl}
 use native.Mathlib.Omega.{arith}
 use native.Mathlib.Numerals.{add-one}
 use native.Mathlib.Decide.{ℕ-discrete}
 use lib.Dec.{eqb, lit<}
 use lib.Pow.{pow-mono}
-use Rattle.nodes.specs.Sets.{bit, In, has, with, inside, keep, gather, setOf}
-use Rattle.nodes.proofs.Bit.{bit-above, in-lt, has-in, in-has, out-has, has-bit, same, bit-empty}
-use Rattle.nodes.proofs.Operations.{bit-with, bit-with-same, bit-with-other, with-lt}
+use Rattle.nodes.specs.Sets.{In, has, with, keep, gather, setOf}
+use Rattle.nodes.proofs.Bit.{bit-above, in-lt, has-in, in-has, out-has, has-bit, bit-empty}
+use Rattle.nodes.proofs.Operations.{bit-with-same, bit-with-other, with-lt}
 use Rattle.nodes.proofs.Inside.{inside-member, with-grows, same-members}
 
 -- ---- the set of the nodes below n of which f is true
