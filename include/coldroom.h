@@ -112,8 +112,9 @@ uint64_t coldroom_write_evidence(uint64_t nodes, const uint64_t *rows, uint64_t 
 uint64_t coldroom_check_evidence(uint64_t nodes, const uint64_t *rows, uint64_t rows_length, uint64_t node,
                                  const uint8_t *list, uint64_t list_length);
 
-/* Where a node stands. Value 0 not deadlocked; 1 deadlocked and in the ring: a path of waits leads from it back to itself;
- * 2 deadlocked and behind the ring. Refused by 1 to 8, 9. */
+/* Where a node stands. Value 0 not deadlocked; 1 deadlocked and in the ring: a path of waits leads from it back to itself through
+ * deadlocked nodes only; 2 deadlocked and behind the ring: no such path leads back, but one leads to a node that is in the ring.
+ * Refused by 1 to 8, 9. */
 uint64_t coldroom_ring(uint64_t nodes, const uint64_t *rows, uint64_t rows_length, uint64_t node);
 
 /* ---- ONE CONTROLLER ----

@@ -22,16 +22,18 @@ use Rattle.waits.specs.Deadlocked.{Deadlocked, Path, Reachable, passes}
 use Rattle.waits.specs.Rows.{waitsOf, Shaped}
 use Rattle.waits.specs.Numbers.{checkOf}
 use Rattle.waits.proofs.Table.{accepted-shaped}
-use Rattle.waits.proofs.Lawful.{accepted-lawful}
+use Rattle.waits.proofs.Lawful.{accepted-lawful, accepted-met}
 use Rattle.deadlock.specs.Refusals.{strangeEntry, checkNodeOf, checkListOf, checkRoomOf}
 use Rattle.deadlock.specs.Evidence.{Evidence, WrittenSays, judged, judgedOf}
 use Rattle.deadlock.specs.declared.evidence.Written.the-variants.{Bytes}
 use Rattle.deadlock.specs.declared.evidence.Judged.the-variants.{Passes, Fails, Refused as Judged·Refused}
-use Rattle.deadlock.specs.Ring.{OnRing}
-use Rattle.deadlock.specs.Sweeps.{stuck, ahead, knot}
+use Rattle.deadlock.specs.declared.ring.Report.the-variants.{InRing, BehindRing, NotDeadlocked}
+use Rattle.deadlock.specs.Ring.{LeadsTo, ReportSays}
+use Rattle.deadlock.specs.Sweeps.{stuck, aheadWithin, ahead, knot}
 use Rattle.deadlock.proofs.Reduction.{stuck-iff}
-use Rattle.deadlock.proofs.Paths.{ahead-iff, reachable-node}
-use Rattle.deadlock.proofs.Refused.{node-accepted, list-accepted, room-accepted}
+use Rattle.deadlock.proofs.Paths.{path-node, reachable-node, through-first, ahead-iff}
+use Rattle.deadlock.proofs.Leads.{leads-iff, leads-to-ring}
+use Rattle.deadlock.proofs.Refused.{node-fine, node-accepted, list-accepted, room-accepted}
 
 -- ---- over any lawful graph of waits, and a node of it
 module _ (w : Waits) (law : Lawful w) (i : ℕ) (h : i < w .nodes) where
@@ -89,11 +91,22 @@ module _ (n : ℕ) (rows : List ℕ) (i : ℕ) (ok : checkNodeOf n rows i ≡ Ac
   pub not-stuck : has (stuck (waitsOf n rows)) i ≡ false → Deadlocked (waitsOf n rows) i → ⊥
   not-stuck = stuck-no (waitsOf n rows) law i here
 
-  pub on-ring : has (ahead (waitsOf n rows) i) i ≡ true → OnRing (waitsOf n rows) i
-  on-ring e = ahead-iff (waitsOf n rows) law i here i .0 (has-in _ _ e)
+  -- where it stands, from the stuck nodes and those to which a path leads from it within them
+  pub not-in-ring : has (stuck (waitsOf n rows)) i ≡ false → ReportSays n rows i NotDeadlocked
+  not-in-ring e = (ok, not-stuck e)
 
-  pub off-ring : has (ahead (waitsOf n rows) i) i ≡ false → OnRing (waitsOf n rows) i → ⊥
-  off-ring e p = not-both (in-has _ _ (ahead-iff (waitsOf n rows) law i here i .1 p)) e
+  pub in-ring : has (stuck (waitsOf n rows)) i ≡ true → has (aheadWithin (waitsOf n rows) (stuck (waitsOf n rows)) i) i ≡ true → ReportSays n rows i InRing
+  in-ring e f = (ok, is-stuck e, leads-iff (waitsOf n rows) law i (has-in _ _ e) i .0 (has-in _ _ f))
+
+  pub behind-ring : has (stuck (waitsOf n rows)) i ≡ true → has (aheadWithin (waitsOf n rows) (stuck (waitsOf n rows)) i) i ≡ false → ReportSays n rows i BehindRing
+  behind-ring e f = (ok, is-stuck e, λ r. not-both (in-has _ _ (leads-iff (waitsOf n rows) law i (has-in _ _ e) i .1 r)) f)
+
+  -- Theorem: if it is deadlocked, it leads to a node that is reported as in the ring.
+  pub to-ring : Deadlocked (waitsOf n rows) i → (j : ℕ) × LeadsTo (waitsOf n rows) i j × ReportSays n rows j InRing
+  to-ring d =
+      let graph = node-accepted n rows i ok .0 in
+      let (j, l, r) = leads-to-ring (waitsOf n rows) law (accepted-met n rows graph) i here d in
+      (j, l, (node-fine n rows j graph (path-node (waitsOf n rows) law here (l .0)), through-first (waitsOf n rows) (Deadlocked (waitsOf n rows)) (r .0) (r .1), r))
 
   knot-below : (s : ℕ) → s ≡ knot (waitsOf n rows) i → Inside s (below n)
   knot-below s e = rw e (inside-in _ _ (λ j m. in-below n j .1 (reachable-node (waitsOf n rows) law here (knot-iff (waitsOf n rows) law i here j .0 m .2))))

@@ -10,13 +10,14 @@ use lib.Seq.{take-suc}
 use borrow.Author.Tests.{leb-false, le-leb, lt-leb}
 use Rattle.lemmas.specs.Lists.{anyOf}
 use Rattle.lemmas.proofs.Any.{none-at}
-use Rattle.nodes.specs.Sets.{has, union, minus, with, below, setOf, noNode}
+use Rattle.nodes.specs.Sets.{has, meet, minus, with, below, setOf, noNode}
 use Rattle.nodes.proofs.Gather.{list-snoc}
 use Rattle.waits.specs.declared.rows.Row.{Row}
 use Rattle.waits.specs.Waits.{Waits}
 use Rattle.waits.specs.Deadlocked.{outside}
 use Rattle.waits.specs.Rows.{rowAt, outOf, holdsOf}
 use Rattle.deadlock.specs.Refusals.{strangeEntry}
+use Rattle.deadlock.specs.Sweeps.{aheadWithin}
 
 -- ---- rows
 pub met : (rows : List ℕ) (k g : ℕ) {row : Row} {r b : Bool} → r ≡ holdsOf row g → row ≡ rowAt rows k → r ≡ b → holdsOf (rowAt rows k) g ≡ b
@@ -26,8 +27,12 @@ pub met-named : (rows : List ℕ) (j g : ℕ) {k : ℕ} {row : Row} {r b : Bool}
     → holdsOf (rowAt rows j) g ≡ b
 met-named rows j g q e f h = ap (λ (x : ℕ). holdsOf (rowAt rows x) g) (sym q) ∙ met rows _ g e f h
 
-pub joined : (rows : List ℕ) (k s : ℕ) {row : Row} {r o : ℕ} → r ≡ union s o → o ≡ outOf row → row ≡ rowAt rows k → r ≡ union s (outOf (rowAt rows k))
-joined rows k s e f g = e ∙ ap (union s) (f ∙ ap outOf g)
+pub out-within : (rows : List ℕ) (k s : ℕ) {row : Row} {r o : ℕ} → r ≡ meet s o → o ≡ outOf row → row ≡ rowAt rows k → r ≡ meet s (outOf (rowAt rows k))
+out-within rows k s e f g = e ∙ ap (meet s) (f ∙ ap outOf g)
+
+-- the nodes ahead within a set that a callee gave
+pub within-same : (w : Waits) (i : ℕ) {r s t : ℕ} → r ≡ aheadWithin w t i → t ≡ s → r ≡ aheadWithin w s i
+within-same w i e f = e ∙ ap (λ (x : ℕ). aheadWithin w x i) f
 
 -- ---- lists of bytes
 pub entry-node : (n : ℕ) (l : List ℕ) (at : ℕ) → at < length l → strangeEntry n l ≡ false → getD l at 0 < n

@@ -2,6 +2,7 @@
 pub mod Sweeps
 pub mod Reduction
 pub mod Paths
+pub mod Leads
 pub mod Passing
 pub mod Cases
 pub mod Writing

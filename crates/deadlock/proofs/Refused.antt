@@ -3,12 +3,12 @@ use mathlib.Core.Path.{_≡_, sym, ap, _∙_}
 use mathlib.Core.Bool.{false}
 use mathlib.Core.List.{List, [], _∷_, append-assoc}
 use Prim.Native.Nat.{ℕ, _≤_, _<_}
-use borrow.Author.Tests.{leb-false, ltb-false}
+use borrow.Author.Tests.{leb-false, ltb-false, lt-leb}
 use Rattle.nodes.specs.Sets.{noNode}
 use Rattle.waits.specs.declared.numbers.Refusal.{Refusal}
 use Rattle.waits.specs.declared.numbers.Checked.the-variants.{Accepted, Refused}
 use Rattle.waits.specs.Numbers.{Line, line, graphLines, firstSaid, checkOf}
-use Rattle.waits.proofs.Next.{Next, next, refused-before, next-accepted}
+use Rattle.waits.proofs.Next.{Next, next, refused-before, not-refused, next-accepted}
 use Rattle.deadlock.specs.Refusals.{strangeEntry, smallRoom, askedLines, checkNodeOf, checkListOf, checkRoomOf}
 
 pub node-next : (n : ℕ) (rows : List ℕ) (i : ℕ) → Next (checkOf n rows) (line 9 0 (noNode n i)) (checkNodeOf n rows i)
@@ -37,6 +37,10 @@ list-refused n rows i l = refused-before (line 14 0 (strangeEntry n l)) (list-ne
 
 pub room-refused : (n : ℕ) (rows : List ℕ) (i room : ℕ) {r : Refusal} → checkNodeOf n rows i ≡ Refused r → Refused r ≡ checkRoomOf n rows i room
 room-refused n rows i room = refused-before (line 15 0 (smallRoom n room)) (room-next n rows i room)
+
+pub node-fine : (n : ℕ) (rows : List ℕ) (i : ℕ) → checkOf n rows ≡ Accepted → i < n → checkNodeOf n rows i ≡ Accepted
+unfolding noNode
+node-fine n rows i e h = sym (not-refused (line 9 0 (noNode n i)) (node-next n rows i) e (lt-leb n i h))
 
 -- ---- and back: what isn't refused
 pub node-accepted : (n : ℕ) (rows : List ℕ) (i : ℕ) → checkNodeOf n rows i ≡ Accepted → (checkOf n rows ≡ Accepted) × (i < n)

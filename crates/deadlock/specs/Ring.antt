@@ -5,14 +5,24 @@ use Prim.Native.Nat.{ℕ}
 use Rattle.waits.specs.declared.numbers.Checked.the-variants.{Accepted, Refused}
 use Rattle.waits.specs.Waits.{Waits}
 use Rattle.waits.specs.Deadlocked.{Deadlocked, Path}
+use Rattle.waits.specs.Deadlocked.Path.{edge, then}
 use Rattle.waits.specs.Rows.{waitsOf}
 use Rattle.deadlock.specs.declared.ring.Report.{Report}
 use Rattle.deadlock.specs.declared.ring.Report.the-variants.{InRing, BehindRing, NotDeadlocked, Refused as Report·Refused}
 use Rattle.deadlock.specs.Refusals.{checkNodeOf}
 
--- along one edge or more one comes from the node back to it
+-- every node of a path, its ends included, has a property
+abbrev pub Through : {w : Waits} → (ℕ → Type 0) → {i j : ℕ} → Path w i j → Type 0
+Through P {i} {j} (edge e) = P i × P j
+Through P {i} (then e p) = P i × Through P p
+
+-- a path of one or more edges leads from i to j through deadlocked nodes only
+abbrev pub LeadsTo : Waits → ℕ → ℕ → Type 0
+LeadsTo w i j = (p : Path w i j) × Through (Deadlocked w) p
+
+-- one leads from the node back to itself
 abbrev pub OnRing : Waits → ℕ → Type 0
-OnRing w i = Path w i i
+OnRing w i = LeadsTo w i i
 
 -- Of node i: the refusal; that it is deadlocked and in the ring, or deadlocked and behind the ring; or not deadlocked.
 abbrev pub ReportSays : ℕ → List ℕ → ℕ → Report → Type 0

@@ -26,13 +26,17 @@ freed w = sweeps (freeing w) (w .nodes) (w .nodes) 0
 unfoldable pub stuck : Waits → ℕ
 stuck w = minus (below (w .nodes)) (freed w)
 
--- those that a node waits on join the reached ones if it is one of them
-unfoldable pub reaching : Waits → ℕ → ℕ → ℕ
-reaching w k g = cond (has g k) (union g (w .out k)) g
+-- those that a node waits on, within s, join the reached ones if it is one of them
+unfoldable pub reaching : Waits → ℕ → ℕ → ℕ → ℕ
+reaching w s k g = cond (has g k) (union g (meet s (w .out k))) g
 
--- the nodes to which a path leads from i
+-- the nodes to which a path leads from i, all of whose nodes after i are in s
+unfoldable pub aheadWithin : Waits → ℕ → ℕ → ℕ
+aheadWithin w s i = sweeps (reaching w s) (w .nodes) (w .nodes) (meet s (w .out i))
+
+-- the nodes to which any path leads from i
 unfoldable pub ahead : Waits → ℕ → ℕ
-ahead w i = sweeps (reaching w) (w .nodes) (w .nodes) (w .out i)
+ahead w i = aheadWithin w (below (w .nodes)) i
 
 -- the evidence for i as a set: the stuck nodes reachable from i, and nobody if i isn't stuck
 unfoldable pub knot : Waits → ℕ → ℕ

@@ -1,6 +1,6 @@
 // The ring report: where a deadlocked claim stands.
 ghost use Rattle.deadlock.specs.Ring.{ReportSays};
-use crate::reach::ahead;
+use crate::reach::ahead_within;
 use crate::reduce::stuck;
 use crate::refusals::check_node;
 use nodes::Node;
@@ -22,10 +22,11 @@ pub fn ring_report(nodes: usize, rows: &[u64], i: Node) -> Report
     if let Checked::Refused(r) = checked {
         return Report::Refused(r);
     }
-    if !stuck(nodes, rows).has(i) {
+    let stuck = stuck(nodes, rows);
+    if !stuck.has(i) {
         return Report::NotDeadlocked;
     }
-    if ahead(nodes, rows, i).has(i) {
+    if ahead_within(nodes, rows, stuck, i).has(i) {
         return Report::InRing;
     }
     Report::BehindRing

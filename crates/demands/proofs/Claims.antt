@@ -32,7 +32,7 @@ use Rattle.deadlock.specs.Sweeps.{knot}
 use Rattle.deadlock.proofs.Refused.{node-accepted}
 use Rattle.deadlock.proofs.Passing.{in-outside, passes-iff, passes-same, passes-deadlocked}
 use Rattle.deadlock.proofs.Offered.{evidence-passes}
-use Rattle.deadlock.proofs.Answers.{asked-evidence, judged-as}
+use Rattle.deadlock.proofs.Answers.{to-ring, asked-evidence, judged-as}
 use Rattle.demands.specs.Demands.{Demand2}
 
 module _ (n : ℕ) (rows : List ℕ) (i : ℕ) where
@@ -117,6 +117,7 @@ demand-2 n rows i = record {
   all = λ s says. says .1 i;
   claim = claim-right n rows i;
   ring = ring-right n rows i;
+  to-ring = to-ring n rows i;
   list = list-right n rows i;
   those-outside = in-outside (waitsOf n rows);
   alike = list-same n rows i;

@@ -5,12 +5,13 @@ use mathlib.Core.List.{[]}
 use Prim.Native.Nat.{ℕ}
 use lib.Dec.{lit<}
 use Rattle.lemmas.specs.Lists.{anyOf}
-use Rattle.nodes.specs.Sets.{bit, setOf}
+use Rattle.nodes.specs.Sets.{setOf}
 use Rattle.nodes.proofs.Bit.{bit-empty, out-has}
 use Rattle.waits.specs.Waits.{Waits}
 use Rattle.waits.specs.Deadlocked.{outside, passes}
 use Rattle.waits.specs.Deadlocked.Path.{edge, then}
 use Rattle.waits.specs.Mornings.{firstRows, secondRows, fourthRows, fifthRows, sixthRows, ninthRows, tenthRows}
+use Rattle.deadlock.proofs.Answers.{not-in-ring, in-ring, behind-ring}
 use Rattle.bench.proofs.Open.{open-bench}
 use Rattle.rounds.proofs.Open.{open-rounds}
 use Rattle.demands.specs.Table.{Table}
@@ -53,5 +54,9 @@ table = record {
   ninth-four = refl;
   tenth = morning 5 tenthRows refl refl refl;
   tenth-evidence = evidence 5 tenthRows refl 0 (lit< tt) refl;
+  tenth-cycle = then {j = 3} refl (edge refl);
+  tenth-behind = behind-ring 5 tenthRows 0 refl refl refl;
+  tenth-in = (in-ring 5 tenthRows 1 refl refl refl, in-ring 5 tenthRows 2 refl refl refl);
+  tenth-free = (not-in-ring 5 tenthRows 3 refl refl, not-in-ring 5 tenthRows 4 refl refl);
   twelfth = nobody-passes;
 }

@@ -25,13 +25,13 @@ use Rattle.deadlock.specs.declared.claims.Found.the-variants.{Nodes, Refused as
 use Rattle.deadlock.specs.declared.claims.Claim.{Claim}
 use Rattle.deadlock.specs.declared.claims.Claim.the-variants.{Deadlocked as Claim·Deadlocked, Refused as Claim·Refused}
 use Rattle.deadlock.specs.declared.ring.Report.{Report}
-use Rattle.deadlock.specs.declared.ring.Report.the-variants.{NotDeadlocked as Report·NotDeadlocked, Refused as Report·Refused}
+use Rattle.deadlock.specs.declared.ring.Report.the-variants.{InRing, NotDeadlocked as Report·NotDeadlocked, Refused as Report·Refused}
 use Rattle.deadlock.specs.declared.evidence.Written.{Written}
 use Rattle.deadlock.specs.declared.evidence.Written.the-variants.{Bytes, Refused as Written·Refused}
 use Rattle.deadlock.specs.declared.evidence.Judged.the-variants.{Passes, Refused as Judged·Refused}
 use Rattle.deadlock.specs.Refusals.{askedLines, listLines, roomLines, checkNodeOf, checkListOf}
 use Rattle.deadlock.specs.Claims.{FoundSays, ClaimSays}
-use Rattle.deadlock.specs.Ring.{ReportSays}
+use Rattle.deadlock.specs.Ring.{LeadsTo, ReportSays}
 use Rattle.deadlock.specs.Evidence.{Evidence, WrittenSays, judgedOf}
 use Rattle.step.specs.declared.answers.Verdict.{Verdict}
 use Rattle.step.specs.declared.answers.Verdict.the-variants.{Deadlocked as Verdict·Deadlocked}
@@ -91,6 +91,8 @@ module _ (n : ℕ) (rows : List ℕ) where
     pub all : (s : Set) → FoundSays n rows (Nodes s) → In i (num s) ↔ ((i < n) × Deadlocked w i)
     pub claim : checkNodeOf n rows i ≡ Accepted → (x : Claim) → ClaimSays n rows i x → (x ≡ Claim·Deadlocked) ↔ Deadlocked w i
     pub ring : checkNodeOf n rows i ≡ Accepted → (x : Report) → ReportSays n rows i x → (x ≡ Report·NotDeadlocked) ↔ (Deadlocked w i → ⊥)
+    -- The paper: every deadlocked node leads, through deadlocked nodes only, to one that is reported as in the ring.
+    pub to-ring : checkNodeOf n rows i ≡ Accepted → Deadlocked w i → (j : ℕ) × LeadsTo w i j × ReportSays n rows j InRing
     -- "A list offered as evidence passes exactly when it holds the claim asked about and the nodes outside it satisfy no member's
     -- condition."
     pub list : (l : List ℕ) → checkListOf n rows i l ≡ Accepted

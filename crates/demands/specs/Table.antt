@@ -15,7 +15,9 @@ use Rattle.waits.specs.Rows.{waitsOf}
 use Rattle.waits.specs.Numbers.{checkOf}
 use Rattle.waits.specs.Mornings.{firstRows, secondRows, fourthRows, fifthRows, sixthRows, ninthRows, tenthRows}
 use Rattle.deadlock.specs.declared.evidence.Judged.the-variants.{Passes, Fails}
+use Rattle.deadlock.specs.declared.ring.Report.the-variants.{InRing, BehindRing, NotDeadlocked as Report·NotDeadlocked}
 use Rattle.deadlock.specs.Evidence.{Evidence, judgedOf}
+use Rattle.deadlock.specs.Ring.{ReportSays}
 use Rattle.step.specs.declared.answers.Verdict.{Verdict}
 use Rattle.step.specs.declared.answers.Verdict.the-variants.{NoVerdict, Deadlocked, NotDeadlocked}
 use Rattle.step.specs.declared.answers.Answer.the-variants.{Taken, Opened}
@@ -108,5 +110,10 @@ pub record Table : Type 0 where
   -- 10: 1, 2, 3 deadlocked. They are the evidence for 1.
   pub tenth : Morning 5 tenthRows 6 (0 ∷ 1 ∷ 2 ∷ [])
   pub tenth-evidence : Evidence (waitsOf 5 tenthRows) 0 (0 ∷ 1 ∷ 2 ∷ [])
+  -- 1 gets back to itself, but through 4, which is free: it stands behind the ring of 2 and 3.
+  pub tenth-cycle : Path (waitsOf 5 tenthRows) 0 0
+  pub tenth-behind : ReportSays 5 tenthRows 0 BehindRing
+  pub tenth-in : ReportSays 5 tenthRows 1 InRing × ReportSays 5 tenthRows 2 InRing
+  pub tenth-free : ReportSays 5 tenthRows 3 Report·NotDeadlocked × ReportSays 5 tenthRows 4 Report·NotDeadlocked
   -- 12: the empty list passes for nobody, in any graph.
   pub twelfth : (w : Waits) (i : ℕ) → passes w i [] ≡ false

@@ -1,8 +1,8 @@
 -- The members of a set as an ascending list: for every width. Assumes nothing.
 use mathlib.Core.Path.{_≡_, refl, sym, ap, ap₂, _∙_}
 use mathlib.Core.Bool.{Bool, true, false}
-use mathlib.Core.Logic.{⊎-elim, _↔_}
-use mathlib.Core.List.{List, [], _++_, append-assoc, append-nil, List·Memᴰ, List·Memᴰ·append-cases, List·Memᴰ·eq-of-singleton, Memᴰ·append-left, Memᴰ·append-right}
+use mathlib.Core.Logic.{_⊎_, inl, inr, ⊎-elim, _↔_}
+use mathlib.Core.List.{List, [], _∷_, _++_, append-assoc, append-nil, List·Memᴰ, List·Memᴰ·append-cases, List·Memᴰ·eq-of-singleton, Memᴰ·append-left, Memᴰ·append-right}
 use mathlib.Core.List.List·Memᴰ.{List·Memᴰ·head as here}
 use Prim.Native.Nat.{ℕ, zero, suc, _+_, _*_, _/_, _%_, _^_, _≤_, _<_}
 use native.Mathlib.Nat.{le-refl, not-suc-le-zero, add-zero, add-suc, suc-add, mul-one, mod-lt, eq-or-lt-of-le, le-of-suc-le-suc, mod-eq-of-lt, add-comm, zero-add}
@@ -16,7 +16,7 @@ use lib.Bits.{block-half, block-odd}
 use Rattle.lemmas.specs.Lists.{Ascending, Once}
 use Rattle.lemmas.proofs.Ascending.{ascending-snoc, ascending-once}
 use Rattle.nodes.specs.Sets.{bit, In, has, only, membersFrom, members}
-use Rattle.nodes.proofs.Bit.{bit-le, in-lt, has-in, in-has, pow-gt}
+use Rattle.nodes.proofs.Bit.{bit-le, in-or-out, in-lt, has-in, in-has, pow-gt, empty-same}
 
 -- ---- the members from k on, however large the bound of the recursion
 more : (f k s : ℕ) → s ≤ f → membersFrom (suc f) k s ≡ membersFrom f k s
@@ -127,3 +127,11 @@ members-ascending s = rw (members-all s s (pow-gt s)) at (below-ascending s s)
 
 pub members-once : (s : ℕ) → Once (members s)
 members-once s = ascending-once (members s) (members-ascending s)
+
+-- a set is empty, or has a member
+pub none-or-some : (s : ℕ) → (s ≡ 0) ⊎ ((k : ℕ) × In k s)
+none-or-some s = go (members s) refl
+  where
+    go : (l : List ℕ) → members s ≡ l → (s ≡ 0) ⊎ ((k : ℕ) × In k s)
+    go [] e = inl (empty-same s (λ k. ⊎-elim (λ i. absurd (elim (rw e at (members-in s k .1 i)) [ ])) (λ z. z) (in-or-out s k)))
+    go (x ∷ l) e = inr (x, members-in s x .0 (rw e (here refl)))

@@ -1,20 +1,20 @@
 -- The condition of a row, kind by kind, and that it reads only OUT and is never unmet by more grants. Assumes nothing.
-use mathlib.Core.Path.{_≡_, sym, ap, _∙_}
+use mathlib.Core.Path.{_≡_, refl, sym, ap, _∙_}
 use mathlib.Core.Bool.{true, false, not}
-use mathlib.Core.Logic.{inl, inr}
+use mathlib.Core.Logic.{inl, inr, ⊎-elim}
 use mathlib.Core.List.{List·Memᴰ}
 use mathlib.Core.List.List·Memᴰ.{List·Memᴰ·head as here, List·Memᴰ·tail as there}
 use Prim.Native.Nat.{ℕ}
 use native.Mathlib.Nat.{le-trans}
 use lib.Dec.{leb, eqb}
-use borrow.Author.Tests.{leb-true, le-leb}
+use borrow.Author.Tests.{leb-true, le-leb, ne-eqb}
 use Rattle.lemmas.specs.Lists.{anyOf}
 use Rattle.lemmas.proofs.Tests.{cond-mono, and-intro, and-left, and-right, same-test, not-true-false, not-both}
 use Rattle.lemmas.proofs.Any.{any-some, some-any}
 use Rattle.nodes.specs.Sets.{bit, In, union, meet, inside, size}
 use Rattle.nodes.specs.Words.{num}
 use Rattle.nodes.proofs.Operations.{in-union, in-meet}
-use Rattle.nodes.proofs.Inside.{inside-in, inside-of, of-inside, inside-member, inside-empty}
+use Rattle.nodes.proofs.Inside.{inside-in, inside-of, of-inside, inside-member, inside-empty, none-in}
 use Rattle.nodes.proofs.Size.{size-mono}
 use Rattle.waits.specs.declared.rows.Row.{Row}
 use Rattle.waits.specs.Rows.{setsOf, laterOf, outOf, liesIn, holdsOf}
@@ -53,6 +53,21 @@ out-set r q k (there (there (there (here e)))) i =
     out-later r k (in-union (num (r .second)) (union (num (r .third)) (num (r .fourth))) k .1 (inr (in-union (num (r .third)) (num (r .fourth)) k .1 (inr (rw e at i)))))
 out-set r q k (there (there (there (there m)))) i = absurd (elim m [ ])
 
+-- and each member of OUT is in one of them
+pub out-in-set : (r : Row) (k : ℕ) → In k (outOf r) → (q : ℕ) × List·Memᴰ q (setsOf r) × In k q
+unfolding outOf laterOf
+out-in-set r k i =
+    ⊎-elim
+    (λ a. (num (r .first), here refl, a))
+    (λ l. ⊎-elim
+    (λ b. (num (r .second), there (here refl), b))
+    (λ m. ⊎-elim
+    (λ c. (num (r .third), there (there (here refl)), c))
+    (λ d. (num (r .fourth), there (there (there (here refl))), d))
+    (in-union (num (r .third)) (num (r .fourth)) k .0 m))
+    (in-union (num (r .second)) (union (num (r .third)) (num (r .fourth))) k .0 l))
+    (in-union (num (r .first)) (laterOf r) k .0 i)
+
 -- ---- more grants among the members of OUT never unmeet it
 module _ (r : Row) (g h : ℕ) (f : (j : ℕ) → In j (outOf r) → In j g → In j h) where
   more-count : leb (r .threshold) (size (meet (num (r .first)) g)) ≡ true → leb (r .threshold) (size (meet (num (r .first)) h)) ≡ true
@@ -89,3 +104,10 @@ lies-in-empty q =
     let none : q ≡ 0 = inside-empty q (inside-of q 0 (and-right (not (eqb q 0)) (inside q 0) e)) in
     let z : not (eqb q 0) ≡ false = ap (λ (x : ℕ). not (eqb x 0)) none in
     not-both (and-left (not (eqb q 0)) (inside q 0) e) z)
+
+-- ---- with all of OUT granting
+pub lies-in-out : (r : Row) (q k : ℕ) → List·Memᴰ q (setsOf r) → In k q → liesIn q (outOf r) ≡ true
+unfolding liesIn
+lies-in-out r q k m i =
+    and-intro (not (eqb q 0)) (inside q (outOf r)) (ap not (ne-eqb q 0 (λ z. none-in q k z i)))
+    (of-inside q (outOf r) (inside-in q (outOf r) (λ j. out-set r q j m)))

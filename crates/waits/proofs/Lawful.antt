@@ -1,19 +1,21 @@
--- Rows that are accepted give a lawful graph of waits. Assumes nothing.
+-- Rows that are accepted give a lawful graph of waits, in which each condition can be met. Assumes nothing.
 use mathlib.Core.Path.{_≡_, refl, _∙_}
 use mathlib.Core.Bool.{true, false, _&&_}
 use mathlib.Core.Logic.{_⊎_, inl, inr, ⊎-elim}
 use mathlib.Core.List.{List}
 use Prim.Native.Nat.{ℕ, zero, suc, _≤_, _<_}
+use native.Mathlib.Nat.{le-trans}
 use native.Mathlib.Omega.{arith}
 use lib.Dec.{leb, eqb}
-use borrow.Author.Tests.{leb-true, lt-leb, ltb-false, eqb-true, eqb-false, eq-eqb, not-false}
+use borrow.Author.Tests.{leb-true, le-leb, lt-leb, ltb-false, eqb-true, eqb-false, eq-eqb, not-false}
 use Rattle.lemmas.proofs.Cases.{of-true, and-rest}
 use Rattle.lemmas.proofs.Tests.{and-left, and-right, or-left-false, not-both, not-true-false}
-use Rattle.lemmas.proofs.Any.{any-some}
+use Rattle.lemmas.proofs.Any.{any-some, some-any}
 use Rattle.nodes.specs.Sets.{In, Inside, meet, size}
 use Rattle.nodes.specs.Words.{num}
 use Rattle.nodes.proofs.Operations.{in-below, in-meet}
 use Rattle.nodes.proofs.Inside.{inside-of, inside-in, inside-member}
+use Rattle.nodes.proofs.Members.{none-or-some}
 use Rattle.nodes.proofs.Size.{size-mono, size-empty}
 use Rattle.waits.specs.declared.rows.Row.{Row}
 use Rattle.waits.specs.declared.numbers.Checked.the-variants.{Accepted}
@@ -21,7 +23,7 @@ use Rattle.waits.specs.Waits.{Lawful}
 use Rattle.waits.specs.Rows.{rowAt, setsOf, outOf, liesIn, holdsOf, waitsOf}
 use Rattle.waits.specs.Numbers.{strangeKind, strangeMember, wrongThreshold, extraSet, nested, badSets, checkOf}
 use Rattle.waits.proofs.Table.{Fine, accepted-row}
-use Rattle.waits.proofs.Condition.{holds-0, holds-1, holds-2, holds-more, holds-local, out-first, lies-in-empty}
+use Rattle.waits.proofs.Condition.{holds-0, holds-1, holds-2, holds-more, holds-local, out-first, out-in-set, lies-in-empty, lies-in-out}
 
 -- ---- what a row says that gets no number
 module _ (n k : ℕ) (r : Row) (ok : Fine n k r) where
@@ -76,6 +78,21 @@ module _ (n k : ℕ) (r : Row) (ok : Fine n k r) where
   pub waiting : holdsOf r 0 ≡ false → outOf r ≡ 0 → ⊥
   waiting f = ⊎-elim (λ (e : r .kind ≡ 0). λ z. not-both (holds-0 r 0 e) f) (λ s. ⊎-elim first-nonempty some-set s) kinds
 
+  -- ---- with all of OUT granting
+  count-met : r .kind ≡ 1 → holdsOf r (outOf r) ≡ true
+  count-met e =
+      let all : size (num (r .first)) ≤ size (meet (num (r .first)) (outOf r)) = size-mono _ _ (inside-in _ _ (λ j i. in-meet (num (r .first)) (outOf r) j .1 (i, out-first r j i))) in
+      holds-1 r (outOf r) e ∙ le-leb (r .threshold) _ (le-trans (threshold-range e .1) all)
+
+  sets-met : r .kind ≡ 2 → holdsOf r (outOf r) ≡ true
+  sets-met e =
+      let some : (k : ℕ) × In k (outOf r) = ⊎-elim (λ z. absurd (some-set e z)) (λ p. p) (none-or-some (outOf r)) in
+      let s = out-in-set r (some .0) (some .1) in
+      holds-2 r (outOf r) e ∙ some-any (λ q. liesIn q (outOf r)) (setsOf r) (s .0) (s .1) (lies-in-out r (s .0) (some .0) (s .1) (s .2))
+
+  pub met-by-all : holdsOf r (outOf r) ≡ true
+  met-by-all = ⊎-elim (λ (e : r .kind ≡ 0). holds-0 r (outOf r) e) (λ s. ⊎-elim count-met sets-met s) kinds
+
 -- Theorem: rows that are accepted give a lawful graph of waits.
 pub accepted-lawful : (n : ℕ) (rows : List ℕ) → checkOf n rows ≡ Accepted → Lawful (waitsOf n rows)
 accepted-lawful n rows ok = record {
@@ -85,3 +102,7 @@ accepted-lawful n rows ok = record {
   active = λ i h e. active n i (rowAt rows i) (accepted-row n rows ok i h) e;
   waiting = λ i h e. waiting n i (rowAt rows i) (accepted-row n rows ok i h) e;
 }
+
+-- Theorem: and in it each condition holds when all that the node waits on have granted.
+pub accepted-met : (n : ℕ) (rows : List ℕ) → checkOf n rows ≡ Accepted → (i : ℕ) → i < n → waitsOf n rows .holds i (waitsOf n rows .out i) ≡ true
+accepted-met n rows ok i h = met-by-all n i (rowAt rows i) (accepted-row n rows ok i h)

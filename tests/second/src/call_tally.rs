@@ -9,6 +9,7 @@ use crate::graph::{count_is_bad, Rows, MOST_EDGES};
 use crate::lent::LentBench;
 use crate::library::LibraryCall::{self, *};
 use crate::library::SAID;
+use crate::reduction::{everyone, leads_back};
 use std::collections::BTreeMap;
 use std::fmt;
 
@@ -34,7 +35,7 @@ const EXPECTED: [(&str, &str); 24] = [
     ("room for evidence:", "too small by one, too small by more, exact, larger by one, larger by more, of 0"),
     ("check_evidence:", "fails, passes, refused 1, refused 8, refused 9, refused 14"),
     ("list of evidence:", "of 0, of 1, of 2 to 64, of 65 to 199, of 200 and more, of more than 64 and passing"),
-    ("ring:", "not deadlocked, in, behind, refused 1, refused 8, refused 9"),
+    ("ring:", "not deadlocked, in, behind, behind with a path back, refused 1, refused 8, refused 9"),
     ("open:", "120, 122, refused 1, refused 9, refused 10, refused 13"),
     ("open 13 for:", "IN, a record's round, a record's call, a record's freed, a record's set"),
     ("controller of:", "1 node, 2 to 63 nodes, 64 nodes, 64 nodes and the last"),
@@ -93,8 +94,10 @@ impl CallTally {
             (refusal, None) => self.refused(name, refusal % 256, refusal / 256),
         }
         match call {
-            Check(rows) | Deadlocked(rows, _) | AllDeadlocked(rows, _) | Ring(rows, _) => {
-                self.graph(rows)
+            Check(rows) | Deadlocked(rows, _) | AllDeadlocked(rows, _) => self.graph(rows),
+            Ring(rows, node) => {
+                self.graph(rows);
+                self.behind(rows, *node as usize, result);
             }
             WriteEvidence(rows, _, room) => {
                 self.graph(rows);
@@ -132,6 +135,15 @@ impl CallTally {
         self.add("graph of", nodes(rows));
         if rows.graph().is_ok_and(|graph| graph.edges() == MOST_EDGES) {
             self.add("graph of", "512 edges");
+        }
+    }
+
+    /// A node behind the ring that gets back to itself, though through a free node: a path alone doesn't tell.
+    fn behind(&mut self, rows: &Rows, node: usize, result: u64) {
+        if let (Some(2), Ok(graph)) = (result.checked_sub(SAID), rows.graph()) {
+            if leads_back(&graph, node, &everyone(&graph)) {
+                self.add("ring", "behind with a path back");
+            }
         }
     }
 

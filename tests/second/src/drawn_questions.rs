@@ -1,5 +1,6 @@
 //! Questions on a whole graph, drawn: graphs good and bad, nodes, rooms and lists.
 
+use crate::drawn_knots;
 use crate::drawn_rows;
 use crate::graph::{Graph, NodeSet, Rows};
 use crate::prng::Prng;
@@ -11,8 +12,9 @@ use crate::unknown;
 
 pub fn rows(rng: &mut Prng) -> Rows {
     match rng.below(100) {
-        0..=29 => drawn_rows::accepted(rng, &[Shape::Few]),
-        30..=71 => drawn_rows::accepted(rng, SMALL),
+        0..=24 => drawn_rows::accepted(rng, &[Shape::Few]),
+        25..=56 => drawn_rows::accepted(rng, SMALL),
+        57..=71 => drawn_knots::accepted(rng),
         72 => drawn_rows::accepted(rng, &[Shape::Dense, Shape::Limit]),
         73..=87 => refused(rng),
         _ => drawn_rows::any(rng),

@@ -10,6 +10,7 @@ pub mod counts;
 pub mod drawn_alone;
 pub mod drawn_benches;
 pub mod drawn_calls;
+pub mod drawn_knots;
 pub mod drawn_questions;
 pub mod drawn_rows;
 pub mod drawn_steps;

@@ -2,6 +2,10 @@
 
 use crate::graph::{Graph, NodeSet};
 
+pub fn everyone(graph: &Graph) -> NodeSet {
+    (0..graph.len()).collect()
+}
+
 /// Goes over the nodes until a pass frees nobody; of the active nodes only those in `may_start` are freed.
 pub fn freed_from(graph: &Graph, may_start: &NodeSet) -> NodeSet {
     let mut freed = NodeSet::new();
@@ -21,16 +25,21 @@ pub fn freed_from(graph: &Graph, may_start: &NodeSet) -> NodeSet {
 
 /// The nodes that no reduction frees. Freeing never spoils a condition, so one greedy run is enough.
 pub fn deadlocked(graph: &Graph) -> NodeSet {
-    let everyone: NodeSet = (0..graph.len()).collect();
+    let everyone = everyone(graph);
     &everyone - &freed_from(graph, &everyone)
 }
 
 /// Every node that a path of no or more edges leads to.
 pub fn reachable(graph: &Graph, from: usize) -> NodeSet {
+    reachable_within(graph, from, &everyone(graph))
+}
+
+/// Every node that a path of no or more edges leads to which goes on to nodes of `within` only.
+fn reachable_within(graph: &Graph, from: usize, within: &NodeSet) -> NodeSet {
     let mut seen = NodeSet::from([from]);
     let mut to_visit = vec![from];
     while let Some(node) = to_visit.pop() {
-        for next in &graph.nodes[node].out {
+        for next in graph.nodes[node].out.intersection(within) {
             if seen.insert(*next) {
                 to_visit.push(*next);
             }
@@ -53,12 +62,18 @@ pub enum Ring {
     Behind,
 }
 
-pub fn ring(graph: &Graph, node: usize) -> Ring {
+/// Whether a path of one or more edges leads from the node back to itself which goes on to nodes of `within` only.
+pub fn leads_back(graph: &Graph, node: usize, within: &NodeSet) -> bool {
     // At least one edge must be walked, so the search begins at the nodes waited on.
-    let mut waited_on = graph.nodes[node].out.iter();
-    if !deadlocked(graph).contains(&node) {
+    let mut waited_on = graph.nodes[node].out.intersection(within);
+    waited_on.any(|next| reachable_within(graph, *next, within).contains(&node))
+}
+
+pub fn ring(graph: &Graph, node: usize) -> Ring {
+    let stuck = deadlocked(graph);
+    if !stuck.contains(&node) {
         Ring::NotDeadlocked
-    } else if waited_on.any(|next| reachable(graph, *next).contains(&node)) {
+    } else if leads_back(graph, node, &stuck) {
         Ring::In
     } else {
         Ring::Behind
@@ -67,8 +82,7 @@ pub fn ring(graph: &Graph, node: usize) -> Ring {
 
 /// Whether the list is evidence for the node: it names the node, and the nodes outside it satisfy no member.
 pub fn list_passes(graph: &Graph, node: usize, list: &NodeSet) -> bool {
-    let everyone: NodeSet = (0..graph.len()).collect();
-    let outside = &everyone - list;
+    let outside = &everyone(graph) - list;
     let satisfied = |member: &usize| graph.nodes[*member].condition.holds(&outside);
     list.contains(&node) && !list.iter().any(satisfied)
 }

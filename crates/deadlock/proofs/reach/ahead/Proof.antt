@@ -1,73 +1,19 @@
--- `ahead` meets its contract. The loop's invariant: t sweeps were made; one that reaches nobody new is the last that is needed. Assumes nothing.
-use mathlib.Core.Path.{_≡_, ap, sym, _∙_}
-use Prim.Native.Nat.{_≤_, _-_}
-use native.Mathlib.Omega.{arith}
-use borrow.Author.Tests.{eqb-true}
+-- `ahead` meets its contract. Assumes nothing.
 use borrow.Author.Needs.{needs}
-use Rattle.lemmas.proofs.Cases.{flag}
-use Rattle.nodes.specs.Words.{num}
-use Rattle.waits.specs.Rows.{waitsOf, outOf}
-use Rattle.deadlock.specs.Sweeps.{ahead as ahead-of, sweeps, reaching}
-use Rattle.deadlock.proofs.Sweeps.{sweeps-whole, sweeps-none, sweeps-more, nobody-new}
-use Rattle.deadlock.proofs.Paths.{reaching-grows}
+use Rattle.deadlock.specs.Sweeps.{ahead as ahead-of}
+use Rattle.deadlock.proofs.Cases.{within-same}
 use Rattle.deadlock.proofs.reach.ahead.Statement.{statement}
 use Rattle.deadlock.proofs.reach.ahead.Tie as tie
 
-abbrev Inv-loop : tie.InvT-loop
-Inv-loop nodes rows g₀ t₀ g t = (num g ≡ sweeps (reaching (waitsOf nodes rows)) nodes t (num g₀)) × (t ≤ nodes)
+below-requires : tie.Need-below-requires
+below-requires c κs = search needs
 
-abbrev μ-loop : tie.MeasureT-loop
-μ-loop nodes rows g₀ t₀ g t = nodes - t
+ahead-within-requires : tie.Need-ahead-within-requires
+ahead-within-requires c κs = search needs
 
-row-at-requires : tie.Need-row-at-requires Inv-loop μ-loop
-row-at-requires c κs = omega arith
-
-out-of-requires : tie.Need-out-of-requires Inv-loop μ-loop
-out-of-requires c κs = search needs
-
-loop-holds : tie.Need-loop-holds Inv-loop μ-loop
-loop-holds c = (sym (sweeps-none _ _ _), search needs)
-
-reach-more-requires : tie.Need-reach-more-requires Inv-loop μ-loop
-reach-more-requires c κs = search needs
-
-minus-requires : tie.Need-minus-requires Inv-loop μ-loop
-minus-requires c κs = search needs
-
-is-empty-requires : tie.Need-is-empty-requires Inv-loop μ-loop
-is-empty-requires c κs = search needs
-
-returns : tie.Need-returns Inv-loop μ-loop
+returns : tie.Need-returns
 unfolding ahead-of
-returns c = nobody-new _ (reaching-grows _) _ _ _ _ _ (omega arith) (c .before .before .before .before .before .loop .inv .0) (c .before .before .before .reach-more .ensures) (sym (c .before .before .minus .ensures) ∙ eqb-true _ _ (flag (c .before .is-empty .ensures) (c .if1 .taken))) ∙ ap (sweeps _ _ _) ((c .before .before .before .before .before .before .out-of .ensures) ∙ ap outOf (c .before .before .before .before .before .before .before .row-at .ensures))
-
-add-t : tie.Need-add-t Inv-loop μ-loop
-add-t c = omega arith
-
-loop-less : tie.Need-loop-less Inv-loop μ-loop
-loop-less c = omega arith
-
-loop-again : tie.Need-loop-again Inv-loop μ-loop
-loop-again c = (sweeps-more _ _ _ _ _ _ (c .before .before .before .before .before .loop .inv .0) (c .before .before .before .reach-more .ensures), omega arith)
-
-returns-2 : tie.Need-returns-2 Inv-loop μ-loop
-unfolding ahead-of
-returns-2 c = let e : (c .before .loop .t) ≡ (c .before .before .before .before .before .args .nodes) = omega arith in sweeps-whole _ _ _ _ _ e (c .before .loop .inv .0) ∙ ap (sweeps _ _ _) ((c .before .before .out-of .ensures) ∙ ap outOf (c .before .before .before .row-at .ensures))
+returns c = within-same _ _ (c .ahead-within .ensures) (c .before .below .ensures)
 
 pub ahead-spec : {M : Type 1} → statement M
-ahead-spec =
-    tie.close
-    (tie.spec
-    Inv-loop
-    μ-loop
-    row-at-requires
-    out-of-requires
-    loop-holds
-    reach-more-requires
-    minus-requires
-    is-empty-requires
-    returns
-    add-t
-    loop-less
-    loop-again
-    returns-2)
+ahead-spec = tie.close (tie.spec below-requires ahead-within-requires returns)

@@ -2,8 +2,8 @@
 use mathlib.Core.Path.{sym, _∙_}
 use borrow.Author.Tests.{not-true, not-false}
 use borrow.Author.Needs.{needs}
-use Rattle.deadlock.proofs.Answers.{node-shaped, is-stuck, not-stuck, on-ring, off-ring}
-use Rattle.deadlock.proofs.Cases.{standing}
+use Rattle.deadlock.proofs.Answers.{node-shaped, not-in-ring, in-ring, behind-ring}
+use Rattle.deadlock.proofs.Cases.{standing, within-same}
 use Rattle.deadlock.proofs.ring.ring_report.Statement.{statement}
 use Rattle.deadlock.proofs.ring.ring_report.Tie as tie
 
@@ -26,19 +26,19 @@ has-requires : tie.Need-has-requires
 has-requires c κs = search needs
 
 returns-2 : tie.Need-returns-2
-returns-2 c = let ok = sym (c .before .before .before .before .before .check-node .ensures) ∙ (c .before .before .before .enum-told .given .1) in (ok, not-stuck _ _ _ ok (standing _ _ (c .before .has .ensures) (c .before .before .stuck .ensures) (not-true _ (c .if1 .taken))))
+returns-2 c = let ok = sym (c .before .before .before .before .before .check-node .ensures) ∙ (c .before .before .before .enum-told .given .1) in not-in-ring _ _ _ ok (standing _ _ (c .before .has .ensures) (c .before .before .stuck .ensures) (not-true _ (c .if1 .taken)))
 
-ahead-requires : tie.Need-ahead-requires
-ahead-requires c κs = node-shaped _ _ _ (sym (c .before .before .before .before .before .check-node .ensures) ∙ (c .before .before .before .enum-told .given .1))
+ahead-within-requires : tie.Need-ahead-within-requires
+ahead-within-requires c κs = node-shaped _ _ _ (sym (c .before .before .before .before .before .check-node .ensures) ∙ (c .before .before .before .enum-told .given .1))
 
 has-requires-2 : tie.Need-has-requires-2
 has-requires-2 c κs = search needs
 
 returns-3 : tie.Need-returns-3
-returns-3 c = let ok = sym (c .before .before .before .before .before .before .before .before .check-node .ensures) ∙ (c .before .before .before .before .before .before .enum-told .given .1) in (ok, is-stuck _ _ _ ok (standing _ _ (c .before .before .before .before .has .ensures) (c .before .before .before .before .before .stuck .ensures) (not-false _ (c .before .before .before .if1 .left))), on-ring _ _ _ ok (standing _ _ (c .before .has2 .ensures) (c .before .before .ahead .ensures) (c .if2 .taken)))
+returns-3 c = let ok = sym (c .before .before .before .before .before .before .before .before .check-node .ensures) ∙ (c .before .before .before .before .before .before .enum-told .given .1) in in-ring _ _ _ ok (standing _ _ (c .before .before .before .before .has .ensures) (c .before .before .before .before .before .stuck .ensures) (not-false _ (c .before .before .before .if1 .left))) (standing _ _ (c .before .has2 .ensures) (within-same _ _ (c .before .before .ahead-within .ensures) (c .before .before .before .before .before .stuck .ensures)) (c .if2 .taken))
 
 returns-4 : tie.Need-returns-4
-returns-4 c = let ok = sym (c .before .before .before .before .before .before .before .before .check-node .ensures) ∙ (c .before .before .before .before .before .before .enum-told .given .1) in (ok, is-stuck _ _ _ ok (standing _ _ (c .before .before .before .before .has .ensures) (c .before .before .before .before .before .stuck .ensures) (not-false _ (c .before .before .before .if1 .left))), off-ring _ _ _ ok (standing _ _ (c .before .has2 .ensures) (c .before .before .ahead .ensures) (c .if2 .left)))
+returns-4 c = let ok = sym (c .before .before .before .before .before .before .before .before .check-node .ensures) ∙ (c .before .before .before .before .before .before .enum-told .given .1) in behind-ring _ _ _ ok (standing _ _ (c .before .before .before .before .has .ensures) (c .before .before .before .before .before .stuck .ensures) (not-false _ (c .before .before .before .if1 .left))) (standing _ _ (c .before .has2 .ensures) (within-same _ _ (c .before .before .ahead-within .ensures) (c .before .before .before .before .before .stuck .ensures)) (c .if2 .left))
 
 pub ring-report-spec : {M : Type 1} → statement M
 ring-report-spec =
@@ -51,7 +51,7 @@ ring-report-spec =
     stuck-requires
     has-requires
     returns-2
-    ahead-requires
+    ahead-within-requires
     has-requires-2
     returns-3
     returns-4)
