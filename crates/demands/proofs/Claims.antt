@@ -26,7 +26,7 @@ use Rattle.deadlock.specs.declared.ring.Report.the-variants.{InRing, BehindRing
 use Rattle.deadlock.specs.declared.evidence.Judged.the-variants.{Passes, Fails}
 use Rattle.deadlock.specs.Refusals.{strangeEntry, askedLines, checkNodeOf, checkListOf}
 use Rattle.deadlock.specs.Claims.{ClaimSays}
-use Rattle.deadlock.specs.Ring.{ReportSays}
+use Rattle.deadlock.specs.Ring.{LeadsTo, ReportSays}
 use Rattle.deadlock.specs.Evidence.{judged, judgedOf}
 use Rattle.deadlock.specs.Sweeps.{knot}
 use Rattle.deadlock.proofs.Refused.{node-accepted}
@@ -70,6 +70,12 @@ module _ (n : ℕ) (rows : List ℕ) (i : ℕ) where
   ring-right ok BehindRing s = (λ e. absurd (true≢false (cc e)), λ d. absurd (d (s .1)))
   ring-right ok NotDeadlocked s = (λ e. s .1, λ d. refl)
   ring-right ok (Report·Refused r) s = absurd (refused-not-accepted (sym s ∙ ok))
+
+  pub ring-exactly : checkNodeOf n rows i ≡ Accepted → Deadlocked (waitsOf n rows) i → (x : Report) → ReportSays n rows i x → (x ≡ InRing) ↔ LeadsTo (waitsOf n rows) i i
+  ring-exactly ok d InRing s = (λ e. s .2, λ l. refl)
+  ring-exactly ok d BehindRing s = (λ e. absurd (true≢false (cc e)), λ l. absurd (s .2 l))
+  ring-exactly ok d NotDeadlocked s = absurd (s .1 d)
+  ring-exactly ok d (Report·Refused r) s = absurd (refused-not-accepted (sym s ∙ ok))
 
   -- ---- lists: "passes" is answered only of one that passes
   passed : (c : Checked) (b : Bool) → judged c (cond b Passes Fails) ≡ Passes → b ≡ true
@@ -117,6 +123,7 @@ demand-2 n rows i = record {
   all = λ s says. says .1 i;
   claim = claim-right n rows i;
   ring = ring-right n rows i;
+  in-ring = ring-exactly n rows i;
   to-ring = to-ring n rows i;
   list = list-right n rows i;
   those-outside = in-outside (waitsOf n rows);

@@ -91,7 +91,9 @@ module _ (n : ℕ) (rows : List ℕ) where
     pub all : (s : Set) → FoundSays n rows (Nodes s) → In i (num s) ↔ ((i < n) × Deadlocked w i)
     pub claim : checkNodeOf n rows i ≡ Accepted → (x : Claim) → ClaimSays n rows i x → (x ≡ Claim·Deadlocked) ↔ Deadlocked w i
     pub ring : checkNodeOf n rows i ≡ Accepted → (x : Report) → ReportSays n rows i x → (x ≡ Report·NotDeadlocked) ↔ (Deadlocked w i → ⊥)
-    -- The paper: every deadlocked node leads, through deadlocked nodes only, to one that is reported as in the ring.
+    -- The paper: a deadlocked node is in the ring exactly if a path of one or more edges leads from it back to itself through deadlocked
+    -- nodes only; and from every deadlocked node such a path leads to one that is in the ring.
+    pub in-ring : checkNodeOf n rows i ≡ Accepted → Deadlocked w i → (x : Report) → ReportSays n rows i x → (x ≡ InRing) ↔ LeadsTo w i i
     pub to-ring : checkNodeOf n rows i ≡ Accepted → Deadlocked w i → (j : ℕ) × LeadsTo w i j × ReportSays n rows j InRing
     -- "A list offered as evidence passes exactly when it holds the claim asked about and the nodes outside it satisfy no member's
     -- condition."
