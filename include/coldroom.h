@@ -100,8 +100,8 @@ uint64_t coldroom_deadlocked(uint64_t nodes, const uint64_t *rows, uint64_t rows
 /* All deadlocked nodes. Value 0, and *set is written. Refused by 1 to 8; then *set stays. */
 uint64_t coldroom_all_deadlocked(uint64_t nodes, const uint64_t *rows, uint64_t rows_length, uint64_t *set);
 
-/* Writes the evidence that a node is deadlocked: every deadlocked node that it reaches, itself included, ascending, a byte each.
- * The value is how many bytes were written: none if it isn't deadlocked. The bytes after them stay.
+/* Writes the evidence that a node is deadlocked: every deadlocked node that it reaches by any path of waits, itself included,
+ * ascending, a byte each. The value is how many bytes were written: none if it isn't deadlocked. The bytes after them stay.
  * Refused by 1 to 8, 9, and 15 if room_length is below nodes. */
 uint64_t coldroom_write_evidence(uint64_t nodes, const uint64_t *rows, uint64_t rows_length, uint64_t node,
                                  uint8_t *room, uint64_t room_length);

@@ -29,10 +29,10 @@ use Rattle.deadlock.specs.declared.evidence.Written.the-variants.{Bytes}
 use Rattle.deadlock.specs.declared.evidence.Judged.the-variants.{Passes, Fails, Refused as Judged·Refused}
 use Rattle.deadlock.specs.declared.ring.Report.the-variants.{InRing, BehindRing, NotDeadlocked}
 use Rattle.deadlock.specs.Ring.{LeadsTo, ReportSays}
-use Rattle.deadlock.specs.Sweeps.{stuck, aheadWithin, ahead, knot}
+use Rattle.deadlock.specs.Sweeps.{stuck, ahead, knot}
 use Rattle.deadlock.proofs.Reduction.{stuck-iff}
 use Rattle.deadlock.proofs.Paths.{path-node, reachable-node, through-first, ahead-iff}
-use Rattle.deadlock.proofs.Leads.{leads-iff, leads-to-ring}
+use Rattle.deadlock.proofs.Leads.{led, leads-iff, leads-to-ring}
 use Rattle.deadlock.proofs.Refused.{node-fine, node-accepted, list-accepted, room-accepted}
 
 -- ---- over any lawful graph of waits, and a node of it
@@ -95,10 +95,10 @@ module _ (n : ℕ) (rows : List ℕ) (i : ℕ) (ok : checkNodeOf n rows i ≡ Ac
   pub not-in-ring : has (stuck (waitsOf n rows)) i ≡ false → ReportSays n rows i NotDeadlocked
   not-in-ring e = (ok, not-stuck e)
 
-  pub in-ring : has (stuck (waitsOf n rows)) i ≡ true → has (aheadWithin (waitsOf n rows) (stuck (waitsOf n rows)) i) i ≡ true → ReportSays n rows i InRing
+  pub in-ring : has (stuck (waitsOf n rows)) i ≡ true → has (led (waitsOf n rows) i) i ≡ true → ReportSays n rows i InRing
   in-ring e f = (ok, is-stuck e, leads-iff (waitsOf n rows) law i (has-in _ _ e) i .0 (has-in _ _ f))
 
-  pub behind-ring : has (stuck (waitsOf n rows)) i ≡ true → has (aheadWithin (waitsOf n rows) (stuck (waitsOf n rows)) i) i ≡ false → ReportSays n rows i BehindRing
+  pub behind-ring : has (stuck (waitsOf n rows)) i ≡ true → has (led (waitsOf n rows) i) i ≡ false → ReportSays n rows i BehindRing
   behind-ring e f = (ok, is-stuck e, λ r. not-both (in-has _ _ (leads-iff (waitsOf n rows) law i (has-in _ _ e) i .1 r)) f)
 
   -- Theorem: if it is deadlocked, it leads to a node that is reported as in the ring.

@@ -6,13 +6,12 @@ use mathlib.Core.Logic.{⊎-elim, _↔_}
 use Prim.Native.Nat.{ℕ, zero, suc, _<_}
 use native.Mathlib.Nat.{le-refl}
 use native.Mathlib.Omega.{arith}
-use native.Mathlib.Decide.{decLt}
 use Rattle.nodes.specs.Sets.{bit, In, Inside, minus, below, size}
 use Rattle.nodes.proofs.Bit.{in-or-out}
 use Rattle.nodes.proofs.Operations.{in-minus, in-below}
 use Rattle.nodes.proofs.Inside.{inside-in, minus-none}
 use Rattle.nodes.proofs.Members.{none-or-some}
-use Rattle.nodes.proofs.Size.{size-same}
+use Rattle.nodes.proofs.Size.{size-less}
 use Rattle.waits.specs.Waits.{Waits, Lawful}
 use Rattle.waits.specs.Deadlocked.{Deadlocked, Path}
 use Rattle.waits.specs.Deadlocked.Path.{edge, then}
@@ -20,6 +19,10 @@ use Rattle.deadlock.specs.Ring.{Through, LeadsTo, OnRing}
 use Rattle.deadlock.specs.Sweeps.{freed, stuck, aheadWithin}
 use Rattle.deadlock.proofs.Reduction.{freed-closed, deadlocked-iff, stuck-iff}
 use Rattle.deadlock.proofs.Paths.{through-both, through-nodes, within-iff}
+
+-- the set of the nodes to which a path leads from i within the stuck ones
+abbrev pub led : Waits → ℕ → ℕ
+led w i = aheadWithin w (stuck w) i
 
 module _ (w : Waits) (law : Lawful w) where
   stuck-nodes : Inside (stuck w) (below (w .nodes))
@@ -32,12 +35,8 @@ module _ (w : Waits) (law : Lawful w) where
     through-both w (λ k b d. stuck-iff w law k .1 (in-below (w .nodes) k .0 b, d)) p (through-nodes w law h p),
   )
 
-  -- the nodes to which a path leads from i within the stuck ones
-  abbrev led : ℕ → ℕ
-  led i = aheadWithin w (stuck w) i
-
-  -- Theorem: from a stuck node, those are exactly the nodes to which a path leads through deadlocked nodes only.
-  pub leads-iff : (i : ℕ) → In i (stuck w) → (j : ℕ) → In j (led i) ↔ LeadsTo w i j
+  -- Theorem: from a stuck node it has exactly the nodes to which a path leads through deadlocked nodes only.
+  pub leads-iff : (i : ℕ) → In i (stuck w) → (j : ℕ) → In j (led w i) ↔ LeadsTo w i j
   leads-iff i m j =
       let q = within-iff w (stuck w) stuck-nodes i m j in
       let h = stuck-iff w law i .0 m .0 in
@@ -52,18 +51,8 @@ module _ (w : Waits) (law : Lawful w) where
     onward t = (then o (t .0), (stuck-iff w law i .0 m .1, t .1))
 
     -- fewer nodes lie ahead of j, if it isn't in the ring
-    fewer : bit (led j) j ≡ 0 → size (led j) < size (led i)
-    fewer z = go (decLt (size (led j)) (size (led i)))
-      where
-        all : Inside (led j) (led i)
-        all = inside-in _ _ (λ k a. leads-iff i m k .1 (onward (leads-iff j s k .0 a)))
-
-        go : Dec (size (led j) < size (led i)) → size (led j) < size (led i)
-        go (yes l) = l
-        go (no l) =
-            let same = size-same (led j) (led i) all (omega arith) in
-            let a : In j (led j) = rw same (leads-iff i m j .1 edge-leads) in
-            absurd (omega arith)
+    fewer : bit (led w j) j ≡ 0 → size (led w j) < size (led w i)
+    fewer = size-less (led w j) (led w i) j (inside-in _ _ (λ k a. leads-iff i m k .1 (onward (leads-iff j s k .0 a)))) (leads-iff i m j .1 edge-leads)
 
   -- ---- where each condition holds when all that the node waits on have granted
   module _ (met : (i : ℕ) → i < w .nodes → w .holds i (w .out i) ≡ true) where
@@ -79,17 +68,17 @@ module _ (w : Waits) (law : Lawful w) where
         (none-or-some (minus (w .out i) (freed w)))
 
     -- going on to it, either it is in the ring, or fewer nodes lie ahead
-    goes-on : (b i : ℕ) → In i (stuck w) → size (led i) < b → (j : ℕ) × LeadsTo w i j × OnRing w j
+    goes-on : (b i : ℕ) → In i (stuck w) → size (led w i) < b → (j : ℕ) × LeadsTo w i j × OnRing w j
     goes-on zero i m h = absurd (omega arith)
     goes-on (suc b) i m h =
         let (j, o, s) = waits-on-stuck i m in
         let later = goes-on b j s in
         ⊎-elim
-        (λ (a : In j (led j)). (j, edge-leads i j m o s, leads-iff j s j .0 a))
-        (λ (z : bit (led j) j ≡ 0).
+        (λ (a : In j (led w j)). (j, edge-leads i j m o s, leads-iff j s j .0 a))
+        (λ (z : bit (led w j) j ≡ 0).
         let r = later (omega (arith, fewer i j m o s z)) in
         (r .0, onward i j m o s (r .1), r .2))
-        (in-or-out (led j) j)
+        (in-or-out (led w j) j)
 
     -- Theorem: every deadlocked node leads, through deadlocked nodes only, to one that is in the ring.
     pub leads-to-ring : (i : ℕ) → i < w .nodes → Deadlocked w i → (j : ℕ) × LeadsTo w i j × OnRing w j

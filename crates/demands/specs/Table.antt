@@ -110,7 +110,7 @@ pub record Table : Type 0 where
   -- 10: 1, 2, 3 deadlocked. They are the evidence for 1.
   pub tenth : Morning 5 tenthRows 6 (0 ∷ 1 ∷ 2 ∷ [])
   pub tenth-evidence : Evidence (waitsOf 5 tenthRows) 0 (0 ∷ 1 ∷ 2 ∷ [])
-  -- 1 gets back to itself, but through 4, which is free: it stands behind the ring of 2 and 3.
+  -- 1 gets back to itself, but through 4, which is free: it stands behind the ring of 2 and 3. 4 and 5 aren't deadlocked.
   pub tenth-cycle : Path (waitsOf 5 tenthRows) 0 0
   pub tenth-behind : ReportSays 5 tenthRows 0 BehindRing
   pub tenth-in : ReportSays 5 tenthRows 1 InRing × ReportSays 5 tenthRows 2 InRing

@@ -3,13 +3,14 @@ use mathlib.Core.Path.{_≡_, refl, sym, ap, ap₂, _∙_}
 use Prim.Native.Nat.{ℕ, zero, suc, _+_, _*_, _/_, _%_, _^_, _≤_, _<_, min, max}
 use native.Mathlib.Nat.{mod-lt}
 use native.Mathlib.Omega.{arith}
+use native.Mathlib.Decide.{decLt}
 use lib.Dec.{eqb}
 use lib.Arith.{bin-ind, digits-mod, digits-div}
 use lib.Bits.{bitAnd, bitOr, and-step, or-step, and-zero-l, or-zero-l}
 use lib.Count.{ones, ones-step, ones-le}
 use lib.ListN.{length, length-append}
 use lib.Pow.{pow-pos}
-use Rattle.nodes.specs.Sets.{union, meet, minus, Inside, only, members, size}
+use Rattle.nodes.specs.Sets.{bit, In, union, meet, minus, Inside, only, members, size}
 use Rattle.nodes.proofs.Bit.{bit-zero, bit-suc, bit-le, empty-same, same}
 use Rattle.nodes.proofs.Operations.{bit-union, bit-meet, bit-minus}
 use Rattle.nodes.proofs.Inside.{inside-both, minus-none}
@@ -105,3 +106,11 @@ size-same a b f h =
     let apart : meet a (minus b a) ≡ 0 = empty-same _ (λ k. omega (arith, bit-meet a (minus b a) k, bit-minus b a k, bit-le a k, bit-le b k)) in
     let rest : minus b a ≡ 0 = size-zero _ (omega (arith, size-disjoint a (minus b a) apart, ap size whole)) in
     inside-both a b f (minus-none b a rest)
+
+-- and one that lacks a member of the other is smaller
+pub size-less : (a b k : ℕ) → Inside a b → In k b → bit a k ≡ 0 → size a < size b
+size-less a b k f i z = go (decLt (size a) (size b))
+  where
+    go : Dec (size a < size b) → size a < size b
+    go (yes l) = l
+    go (no l) = absurd (omega (arith, ap (λ (x : ℕ). bit x k) (size-same a b f (omega arith))))

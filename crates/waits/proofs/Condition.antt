@@ -1,4 +1,5 @@
--- The condition of a row, kind by kind, and that it reads only OUT and is never unmet by more grants. Assumes nothing.
+-- The condition of a row, kind by kind: that it reads only OUT and is never unmet by more grants, and which sets of the row lie in
+-- nobody and in OUT. Assumes nothing.
 use mathlib.Core.Path.{_≡_, refl, sym, ap, _∙_}
 use mathlib.Core.Bool.{true, false, not}
 use mathlib.Core.Logic.{inl, inr, ⊎-elim}
