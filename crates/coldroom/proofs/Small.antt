@@ -8,6 +8,7 @@ use lib.ListN.{length}
 use lib.Dec.{ltb}
 use borrow.Author.Tests.{leb-false, ltb-true}
 use Rattle.lemmas.proofs.Tests.{and-left, and-right, or-left-false}
+use Rattle.nodes.specs.declared.Node.{Node}
 use Rattle.nodes.specs.Sets.{noNode, members}
 use Rattle.nodes.specs.Words.{places}
 use Rattle.nodes.proofs.Walk.{listed, listed-length, listed-all}
@@ -24,22 +25,22 @@ use Rattle.waits.specs.Numbers.{Line, line, strangeCount, wrongCount, manyEdges
 use Rattle.waits.proofs.Cases.{count-fits}
 use Rattle.waits.proofs.Table.{refused-not-accepted}
 use Rattle.deadlock.specs.Refusals.{strangeEntry, smallRoom, askedLines, checkNodeOf, checkListOf, checkRoomOf}
-use Rattle.waits.specs.Deadlocked.{passes}
 use Rattle.deadlock.specs.declared.claims.Found.{Found}
 use Rattle.deadlock.specs.declared.claims.Found.the-variants.{Refused as Found·Refused}
 use Rattle.deadlock.specs.declared.claims.Claim.{Claim}
 use Rattle.deadlock.specs.declared.claims.Claim.the-variants.{Refused as Claim·Refused}
 use Rattle.deadlock.specs.declared.evidence.Written.{Written}
 use Rattle.deadlock.specs.declared.evidence.Written.the-variants.{Bytes, Refused as Written·Refused}
-use Rattle.deadlock.specs.declared.evidence.Judged.the-variants.{Passes, Fails, Refused as Judged·Refused}
+use Rattle.deadlock.specs.declared.evidence.Judged.the-variants.{MemberSatisfied, Refused as Judged·Refused}
 use Rattle.deadlock.specs.declared.ring.Report.{Report}
 use Rattle.deadlock.specs.declared.ring.Report.the-variants.{Refused as Report·Refused}
 use Rattle.deadlock.specs.Claims.{FoundSays, ClaimSays}
-use Rattle.deadlock.specs.Evidence.{WrittenSays, judged, judgedOf}
+use Rattle.deadlock.specs.Evidence.{WrittenSays, judgedOf}
 use Rattle.deadlock.specs.Ring.{ReportSays}
 use Rattle.deadlock.specs.Sweeps.{knot}
 use Rattle.deadlock.proofs.Refused.{room-accepted}
-use Rattle.deadlock.proofs.Answers.{room-write, asked-evidence}
+use Rattle.deadlock.proofs.Judging.{judged-refusal, judged-said, member-node}
+use Rattle.deadlock.proofs.Answers.{room-write, asked-evidence, list-shaped}
 use Rattle.deadlock.proofs.Unique.{one-evidence}
 use Rattle.step.specs.Step.{Outcome, openRound, receive}
 use Rattle.step.proofs.Answered.{Plain, open-answer, receive-answer}
@@ -197,13 +198,13 @@ module _ (n : ℕ) (rows : List ℕ) (r : Refusal) where
     written-small found left x p e = room-small n rows i (length found) r (subst (WrittenSays n rows i found left) e p .0)
 
     pub judged-small : (l : List ℕ) → judgedOf n rows i l ≡ Judged·Refused r → Small r
-    unfolding judgedOf
-    judged-small l e = list-small n rows i l r (go (checkListOf n rows i l) (passes (waitsOf n rows) i l) e)
-      where
-        go : (c : Checked) (b : Bool) → judged c (cond b Passes Fails) ≡ Judged·Refused r → c ≡ Refused r
-        go (Refused t) b h = let same : t ≡ r = cc h in ap Refused same
-        go Accepted true h = absurd (true≢false (cc h))
-        go Accepted false h = absurd (true≢false (cc h))
+    judged-small l e = list-small n rows i l r (judged-refusal n rows i l r .0 e)
+
+-- the member that is named is one of the nodes
+pub member-few : (n : ℕ) (rows : List ℕ) (i : ℕ) (l : List ℕ) (k : Node) → judgedOf n rows i l ≡ MemberSatisfied k → k .0 < places
+member-few n rows i l k e =
+    let ok = judged-said n rows i l (MemberSatisfied k) (λ r q. true≢false (cc q)) .0 e .0 in
+    omega (arith, member-node n rows i l k e, list-shaped n rows i l ok .0 .0)
 
 -- evidence has no more bytes than there are nodes
 pub evidence-few : (n : ℕ) (rows : List ℕ) (i : ℕ) (found left : List ℕ) (x : Written) (k : ℕ) → WrittenSays n rows i found left x → x ≡ Bytes k → k ≤ places

@@ -10,7 +10,7 @@ use Rattle.deadlock.specs.declared.claims.Claim.the-variants.{Deadlocked, NotDe
 use Rattle.deadlock.specs.declared.evidence.Written.{Written}
 use Rattle.deadlock.specs.declared.evidence.Written.the-variants.{Bytes, Refused as Written·Refused}
 use Rattle.deadlock.specs.declared.evidence.Judged.{Judged}
-use Rattle.deadlock.specs.declared.evidence.Judged.the-variants.{Passes, Fails, Refused as Judged·Refused}
+use Rattle.deadlock.specs.declared.evidence.Judged.the-variants.{Passes, ClaimMissing, MemberSatisfied, Refused as Judged·Refused}
 use Rattle.deadlock.specs.declared.ring.Report.{Report}
 use Rattle.deadlock.specs.declared.ring.Report.the-variants.{InRing, BehindRing, NotDeadlocked as Report·NotDeadlocked, Refused as Report·Refused}
 use Rattle.step.specs.declared.answers.Answer.{Answer}
@@ -49,8 +49,9 @@ written (Bytes k) = plus k
 -- a list judged
 abbrev pub judged : Judged → ℕ
 judged (Judged·Refused r) = refusal r
-judged Fails = plus 0
 judged Passes = plus 1
+judged ClaimMissing = plus 2
+judged (MemberSatisfied k) = plus (256 + k .0)
 
 -- the ring
 abbrev pub report : Report → ℕ

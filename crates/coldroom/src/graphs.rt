@@ -80,7 +80,7 @@ pub extern "C" fn coldroom_write_evidence(
     }
 }
 
-// Whether a list passes as evidence for a node.
+// Whether a list passes as evidence for a node; and if it doesn't, why.
 #[no_mangle]
 pub extern "C" fn coldroom_check_evidence(
     nodes: usize,
@@ -93,8 +93,9 @@ pub extern "C" fn coldroom_check_evidence(
     let judged = check_evidence(nodes, rows, Node(node), list);
     match judged {
         Judged::Refused(r) => refusal(r),
-        Judged::Fails => PLUS,
         Judged::Passes => PLUS + 1,
+        Judged::ClaimMissing => PLUS + 2,
+        Judged::MemberSatisfied(k) => PLUS + 256 + k.0 as u64,
     }
 }
 

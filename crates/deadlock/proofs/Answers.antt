@@ -1,5 +1,5 @@
 -- What the calls answer is so, from the sets that were computed. Assumes nothing.
-use mathlib.Core.Path.{_≡_, refl, sym, ap, ap₂, _∙_}
+use mathlib.Core.Path.{_≡_, refl, sym, ap, _∙_}
 use mathlib.Core.Bool.{Bool, true, false, cond}
 use mathlib.Core.Logic.{_⊎_, inl, inr, ⊎-elim, _↔_}
 use mathlib.Core.List.{List, _++_}
@@ -14,19 +14,16 @@ use Rattle.nodes.proofs.Operations.{in-meet, in-with, in-below}
 use Rattle.nodes.proofs.Inside.{inside-in}
 use Rattle.nodes.proofs.Members.{members-in, members-ascending}
 use Rattle.nodes.proofs.Size.{size-members}
-use Rattle.waits.specs.declared.numbers.Checked.{Checked}
-use Rattle.waits.specs.declared.numbers.Checked.the-variants.{Accepted, Refused}
-use Rattle.waits.specs.declared.numbers.Refusal.{Refusal}
+use Rattle.waits.specs.declared.numbers.Checked.the-variants.{Accepted}
 use Rattle.waits.specs.Waits.{Waits, Lawful}
-use Rattle.waits.specs.Deadlocked.{Deadlocked, Path, Reachable, passes}
+use Rattle.waits.specs.Deadlocked.{Deadlocked, Path, Reachable}
 use Rattle.waits.specs.Rows.{waitsOf, Shaped}
 use Rattle.waits.specs.Numbers.{checkOf}
 use Rattle.waits.proofs.Table.{accepted-shaped}
 use Rattle.waits.proofs.Lawful.{accepted-lawful, accepted-met}
 use Rattle.deadlock.specs.Refusals.{strangeEntry, checkNodeOf, checkListOf, checkRoomOf}
-use Rattle.deadlock.specs.Evidence.{Evidence, WrittenSays, judged, judgedOf}
+use Rattle.deadlock.specs.Evidence.{Evidence, WrittenSays}
 use Rattle.deadlock.specs.declared.evidence.Written.the-variants.{Bytes}
-use Rattle.deadlock.specs.declared.evidence.Judged.the-variants.{Passes, Fails, Refused as Judged·Refused}
 use Rattle.deadlock.specs.declared.ring.Report.the-variants.{InRing, BehindRing, NotDeadlocked}
 use Rattle.deadlock.specs.Ring.{LeadsTo, ReportSays}
 use Rattle.deadlock.specs.Sweeps.{stuck, ahead, knot}
@@ -139,13 +136,3 @@ room-written n rows i found left s k ok e w = (
 -- ---- a list that is offered
 pub list-shaped : (n : ℕ) (rows : List ℕ) (i : ℕ) (l : List ℕ) → checkListOf n rows i l ≡ Accepted → Shaped n rows × (strangeEntry n l ≡ false)
 list-shaped n rows i l ok = let p = list-accepted n rows i l ok in (node-shaped n rows i (p .0) .0, p .1)
-
-pub judged-refused : (n : ℕ) (rows : List ℕ) (i : ℕ) (l : List ℕ) {r : Refusal} → checkListOf n rows i l ≡ Refused r
-    → Judged·Refused r ≡ judgedOf n rows i l
-unfolding judgedOf
-judged-refused n rows i l e = sym (ap (λ (x : Checked). judged x (cond (passes (waitsOf n rows) i l) Passes Fails)) e)
-
-pub judged-as : (n : ℕ) (rows : List ℕ) (i : ℕ) (l : List ℕ) (b : Bool) → checkListOf n rows i l ≡ Accepted → passes (waitsOf n rows) i l ≡ b
-    → cond b Passes Fails ≡ judgedOf n rows i l
-unfolding judgedOf
-judged-as n rows i l b e f = sym (ap₂ (λ (x : Checked) (b : Bool). judged x (cond b Passes Fails)) e f)

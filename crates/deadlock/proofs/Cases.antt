@@ -8,7 +8,6 @@ use native.Mathlib.Omega.{arith}
 use lib.ListN.{length, getD, take}
 use lib.Seq.{take-suc}
 use borrow.Author.Tests.{leb-false, le-leb, lt-leb}
-use Rattle.lemmas.specs.Lists.{anyOf}
 use Rattle.lemmas.proofs.Any.{none-at}
 use Rattle.nodes.specs.Sets.{has, meet, minus, with, below, setOf, noNode}
 use Rattle.nodes.proofs.Gather.{list-snoc}
@@ -16,7 +15,9 @@ use Rattle.waits.specs.declared.rows.Row.{Row}
 use Rattle.waits.specs.Waits.{Waits}
 use Rattle.waits.specs.Deadlocked.{outside}
 use Rattle.waits.specs.Rows.{rowAt, outOf, holdsOf}
+use Rattle.deadlock.specs.declared.evidence.Judged.{Judged}
 use Rattle.deadlock.specs.Refusals.{strangeEntry}
+use Rattle.deadlock.specs.Evidence.{firstSatisfied}
 use Rattle.deadlock.specs.Sweeps.{aheadWithin}
 
 -- ---- rows
@@ -57,10 +58,10 @@ unfolding setOf
 none-taken = refl
 
 -- what the members were asked about: everybody outside the list
-pub none-holds : (w : Waits) (l : List ℕ) {r : Bool} {g a s : ℕ} → r ≡ anyOf (λ j. w .holds j g) l → g ≡ minus a s → a ≡ below (w .nodes) → s ≡ setOf l
-    → r ≡ anyOf (λ j. w .holds j (outside w l)) l
+pub asked-outside : (w : Waits) (l : List ℕ) {r : Judged} {g a s : ℕ} → r ≡ firstSatisfied w g l → g ≡ minus a s → a ≡ below (w .nodes) → s ≡ setOf l
+    → r ≡ firstSatisfied w (outside w l) l
 unfolding outside
-none-holds w l e f g h = e ∙ ap (λ (x : ℕ). anyOf (λ j. w .holds j x) l) (f ∙ ap₂ minus g h)
+asked-outside w l e f g h = e ∙ ap (λ (x : ℕ). firstSatisfied w x l) (f ∙ ap₂ minus g h)
 
 -- ---- a set that a callee gave: whether it has a member, and with one more
 pub standing : (s i : ℕ) {t : ℕ} {r b : Bool} → r ≡ has t i → t ≡ s → r ≡ b → has s i ≡ b

@@ -7,6 +7,7 @@ pub mod Passing
 pub mod Cases
 pub mod Writing
 pub mod Refused
+pub mod Judging
 pub mod Answers
 pub mod Offered
 pub mod Unique

@@ -1,6 +1,6 @@
 -- What is written as evidence for a deadlocked claim passes when it is offered for that claim. Assumes nothing.
 use mathlib.Core.Path.{_≡_, sym, ap, _∙_}
-use mathlib.Core.Bool.{true, false}
+use mathlib.Core.Bool.{false}
 use mathlib.Core.List.{List, List·Memᴰ}
 use Prim.Native.Nat.{ℕ, _<_}
 use native.Mathlib.Omega.{arith}
@@ -13,17 +13,15 @@ use Rattle.nodes.specs.Sets.{noNode}
 use Rattle.waits.specs.declared.numbers.Checked.the-variants.{Accepted}
 use Rattle.waits.specs.Deadlocked.{Deadlocked}
 use Rattle.waits.specs.Rows.{waitsOf}
-use Rattle.waits.specs.Numbers.{line}
 use Rattle.waits.proofs.Lawful.{accepted-lawful}
-use Rattle.waits.proofs.Next.{not-refused}
 use Rattle.deadlock.specs.declared.evidence.Written.the-variants.{Bytes}
 use Rattle.deadlock.specs.declared.evidence.Judged.the-variants.{Passes}
-use Rattle.deadlock.specs.Refusals.{strangeEntry, checkNodeOf, checkListOf}
+use Rattle.deadlock.specs.Refusals.{strangeEntry, checkNodeOf}
 use Rattle.deadlock.specs.Evidence.{Evidence, WrittenSays, judgedOf}
 use Rattle.deadlock.proofs.Paths.{reachable-node}
 use Rattle.deadlock.proofs.Passing.{reachable-passes}
-use Rattle.deadlock.proofs.Refused.{list-next, node-accepted, room-accepted}
-use Rattle.deadlock.proofs.Answers.{judged-as}
+use Rattle.deadlock.proofs.Judging.{judgement-passes, judged-as}
+use Rattle.deadlock.proofs.Refused.{list-fine, node-accepted, room-accepted}
 
 entries-known : (n : ℕ) (l : List ℕ) → ((j : ℕ) → List·Memᴰ j l → j < n) → strangeEntry n l ≡ false
 unfolding strangeEntry noNode
@@ -41,10 +39,10 @@ module _ (n : ℕ) (rows : List ℕ) (i : ℕ) (ok : checkNodeOf n rows i ≡ Ac
       let p = node-accepted n rows i ok in
       let law = accepted-lawful n rows (p .0) in
       let known = entries-known n l (λ j m. reachable-node (waitsOf n rows) law (p .1) (evidence .members j .0 m .2)) in
-      let fine : checkListOf n rows i l ≡ Accepted = sym (not-refused (line 14 0 (strangeEntry n l)) (list-next n rows i l) ok known) in
-      sym (judged-as n rows i l true fine
+      sym (judged-as n rows i l (list-fine n rows i l ok known))
+      ∙ judgement-passes (waitsOf n rows) i l .1
       (reachable-passes (waitsOf n rows) law i l (p .1) dead
-      (λ j. (λ m. let t = evidence .members j .0 m in (t .1, t .2), λ t. evidence .members j .1 (dead, t .0, t .1)))))
+      (λ j. (λ m. let t = evidence .members j .0 m in (t .1, t .2), λ t. evidence .members j .1 (dead, t .0, t .1))))
 
 -- Theorem: the bytes that were written pass.
 pub written-passes : (n : ℕ) (rows : List ℕ) (i : ℕ) (found left : List ℕ) (k : ℕ) → WrittenSays n rows i found left (Bytes k)

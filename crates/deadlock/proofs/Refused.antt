@@ -42,6 +42,9 @@ pub node-fine : (n : ℕ) (rows : List ℕ) (i : ℕ) → checkOf n rows ≡ Acc
 unfolding noNode
 node-fine n rows i e h = sym (not-refused (line 9 0 (noNode n i)) (node-next n rows i) e (lt-leb n i h))
 
+pub list-fine : (n : ℕ) (rows : List ℕ) (i : ℕ) (l : List ℕ) → checkNodeOf n rows i ≡ Accepted → strangeEntry n l ≡ false → checkListOf n rows i l ≡ Accepted
+list-fine n rows i l e h = sym (not-refused (line 14 0 (strangeEntry n l)) (list-next n rows i l) e h)
+
 -- ---- and back: what isn't refused
 pub node-accepted : (n : ℕ) (rows : List ℕ) (i : ℕ) → checkNodeOf n rows i ≡ Accepted → (checkOf n rows ≡ Accepted) × (i < n)
 unfolding noNode

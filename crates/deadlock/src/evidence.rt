@@ -4,14 +4,12 @@ ghost use mathlib.Core.Bool.{false};
 ghost use mathlib.Core.List.{_++_};
 ghost use Prim.Native.Nat.{_≤_, _<_};
 ghost use lib.ListN.{length, drop};
-ghost use Rattle.lemmas.specs.Lists.{anyOf};
 ghost use Rattle.nodes.specs.Sets.{Inside, below, members, size, setOf};
 ghost use Rattle.nodes.specs.Words.{num, places};
 ghost use Rattle.waits.specs.Rows.{waitsOf, Shaped};
-ghost use Rattle.waits.specs.Deadlocked.{passes};
 ghost use Rattle.deadlock.specs.Sweeps.{knot as knot-of};
 ghost use Rattle.deadlock.specs.Refusals.{strangeEntry};
-ghost use Rattle.deadlock.specs.Evidence.{WrittenSays, judgedOf};
+ghost use Rattle.deadlock.specs.Evidence.{WrittenSays, firstSatisfied, judgement, judgedOf};
 use crate::reach::ahead;
 use crate::reduce::stuck;
 use crate::refusals::check_list;
@@ -29,9 +27,14 @@ pub enum Written {
     Refused(Refusal),
 }
 
+// What is said of a list that is offered for a claim.
 pub enum Judged {
+    // The claim is in the list, and no member's condition holds when every node outside the list grants.
     Passes,
-    Fails,
+    // The claim isn't in the list.
+    ClaimMissing,
+    // The claim is in the list, and this is the first member, in the list's order, whose condition so holds.
+    MemberSatisfied(Node),
     Refused(Refusal),
 }
 
@@ -90,37 +93,38 @@ fn set_of(nodes: usize, list: &[u8]) -> Set
     s
 }
 
-// Whether some member's condition holds when the nodes of g grant.
-fn some_holds(nodes: usize, rows: &[u64], list: &[u8], g: Set) -> bool
+// The first member, in the list's order, whose condition holds when the nodes of g grant; with none the list passes.
+fn first_satisfied(nodes: usize, rows: &[u64], list: &[u8], g: Set) -> Judged
     requires { ⌜ Shaped nodes (now rows) × (strangeEntry nodes (now list) ≡ false) ⌝ }
-    ensures { λ r. ⌜ r ≡ anyOf (λ j. waitsOf nodes (now (rows .entry)) .holds j (num g)) (now (list .entry)) ⌝ }
+    ensures { λ r. ⌜ r ≡ firstSatisfied (waitsOf nodes (now (rows .entry))) (num g) (now (list .entry)) ⌝ }
 {
     let mut at: usize = 0;
     while at < list.len() {
-        let row = row_at(rows, named(list[at]));
+        let member = named(list[at]);
+        let row = row_at(rows, member);
         if holds(row, g) {
-            return true;
+            return Judged::MemberSatisfied(member);
         }
         at += 1;
     }
-    false
+    Judged::Passes
 }
 
-// Whether a list of nodes passes for i.
-fn list_passes(nodes: usize, rows: &[u64], i: Node, list: &[u8]) -> bool
+// What is said of a list of nodes that is offered for i: whether i is in it comes before what its members need.
+fn judge(nodes: usize, rows: &[u64], i: Node, list: &[u8]) -> Judged
     requires { ⌜ Shaped nodes (now rows) × (strangeEntry nodes (now list) ≡ false) ⌝ }
-    ensures { λ r. ⌜ r ≡ passes (waitsOf nodes (now (rows .entry))) (i .0) (now (list .entry)) ⌝ }
+    ensures { λ r. ⌜ r ≡ judgement (waitsOf nodes (now (rows .entry))) (i .0) (now (list .entry)) ⌝ }
 {
     let all = Set::below(nodes);
     let members = set_of(nodes, list);
     let outside = all.minus(members);
     if !members.has(i) {
-        return false;
+        return Judged::ClaimMissing;
     }
-    !some_holds(nodes, rows, list, outside)
+    first_satisfied(nodes, rows, list, outside)
 }
 
-// Whether a list passes as evidence for i, whoever wrote it.
+// Whether a list passes as evidence for i, whoever wrote it; and if it doesn't, why.
 pub fn check_evidence(nodes: usize, rows: &[u64], i: Node, list: &[u8]) -> Judged
     ensures { λ r. ⌜ r ≡ judgedOf nodes (now (rows .entry)) (i .0) (now (list .entry)) ⌝ }
 {
@@ -128,8 +132,5 @@ pub fn check_evidence(nodes: usize, rows: &[u64], i: Node, list: &[u8]) -> Judge
     if let Checked::Refused(r) = checked {
         return Judged::Refused(r);
     }
-    if list_passes(nodes, rows, i, list) {
-        return Judged::Passes;
-    }
-    Judged::Fails
+    judge(nodes, rows, i, list)
 }

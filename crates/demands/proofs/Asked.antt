@@ -1,7 +1,7 @@
 -- Questions about a graph: what is answered is a refusal exactly with the first line of the question's table that says so.
 -- Assumes nothing.
-use mathlib.Core.Path.{_≡_, refl, sym, ap, _∙_}
-use mathlib.Core.Bool.{Bool, true, false, cond, true≢false}
+use mathlib.Core.Path.{_≡_, sym, ap, _∙_}
+use mathlib.Core.Bool.{true, false, true≢false}
 use mathlib.Core.Logic.{_↔_, Iff·trans}
 use mathlib.Core.List.{List, []}
 use Prim.Native.Nat.{ℕ}
@@ -9,8 +9,6 @@ use lib.ListN.{length}
 use Rattle.waits.specs.declared.numbers.Refusal.{Refusal}
 use Rattle.waits.specs.declared.numbers.Checked.{Checked}
 use Rattle.waits.specs.declared.numbers.Checked.the-variants.{Accepted, Refused}
-use Rattle.waits.specs.Deadlocked.{passes}
-use Rattle.waits.specs.Rows.{waitsOf}
 use Rattle.waits.specs.Numbers.{graphLines, checkOf, Gives}
 use Rattle.waits.proofs.Table.{refused-not-accepted, refused-iff, check-refused}
 use Rattle.deadlock.specs.declared.claims.Found.{Found}
@@ -21,11 +19,12 @@ use Rattle.deadlock.specs.declared.ring.Report.{Report}
 use Rattle.deadlock.specs.declared.ring.Report.the-variants.{InRing, BehindRing, NotDeadlocked, Refused as Report·Refused}
 use Rattle.deadlock.specs.declared.evidence.Written.{Written}
 use Rattle.deadlock.specs.declared.evidence.Written.the-variants.{Bytes, Refused as Written·Refused}
-use Rattle.deadlock.specs.declared.evidence.Judged.the-variants.{Passes, Fails, Refused as Judged·Refused}
+use Rattle.deadlock.specs.declared.evidence.Judged.the-variants.{Refused as Judged·Refused}
 use Rattle.deadlock.specs.Refusals.{askedLines, listLines, roomLines, checkNodeOf, checkListOf, checkRoomOf}
 use Rattle.deadlock.specs.Claims.{FoundSays, ClaimSays}
 use Rattle.deadlock.specs.Ring.{ReportSays}
-use Rattle.deadlock.specs.Evidence.{WrittenSays, judged, judgedOf}
+use Rattle.deadlock.specs.Evidence.{WrittenSays, judgedOf}
+use Rattle.deadlock.proofs.Judging.{judged-refusal}
 
 -- ---- an answer and the check behind it: a refusal, which tells its number, or something that is no refusal
 module _ {A : Type 0} (refuse : Refusal → A) {c : Checked} {r : Refusal} where
@@ -68,14 +67,9 @@ module _ (n : ℕ) (rows : List ℕ) (r : Refusal) (i : ℕ) where
   ring-gives x p = Iff·trans (ring-check x p) node-gives
 
   -- ---- with a list
-  judged-check : (c : Checked) (b : Bool) → (judged c (cond b Passes Fails) ≡ Judged·Refused r) ↔ (c ≡ Refused r)
-  judged-check Accepted true = no-refusal Judged·Refused (λ e. cc e) refl
-  judged-check Accepted false = no-refusal Judged·Refused (λ e. cc e) refl
-  judged-check (Refused t) b = by-refusal Judged·Refused (λ e. cc e) refl
-
   pub list-gives : (l : List ℕ) → (judgedOf n rows i l ≡ Judged·Refused r) ↔ Gives (listLines n rows i l) r
-  unfolding judgedOf checkListOf
-  list-gives l = Iff·trans (judged-check (checkListOf n rows i l) (passes (waitsOf n rows) i l)) (refused-iff (listLines n rows i l) r)
+  unfolding checkListOf
+  list-gives l = Iff·trans (judged-refusal n rows i l r) (refused-iff (listLines n rows i l) r)
 
   -- ---- with lent bytes
   room-gives : (bytes : ℕ) → (checkRoomOf n rows i bytes ≡ Refused r) ↔ Gives (roomLines n rows i bytes) r

@@ -1,39 +1,32 @@
--- The second demand: what meets a condition, who is called deadlocked, and which list passes. Assumes nothing.
-use mathlib.Core.Path.{_≡_, refl, sym, ap, ap₂, _∙_}
-use mathlib.Core.Bool.{Bool, true, false, cond, not, true≢false}
+-- The second demand: what meets a condition, and who is called deadlocked. Assumes nothing.
+use mathlib.Core.Path.{_≡_, refl, sym, ap, _∙_}
+use mathlib.Core.Bool.{true, not, true≢false}
 use mathlib.Core.Logic.{_↔_}
-use mathlib.Core.List.{List, [], _∷_, List·Memᴰ}
+use mathlib.Core.List.{List, List·Memᴰ}
 use Prim.Native.Nat.{ℕ, _≤_}
 use lib.Dec.{eqb}
 use borrow.Author.Tests.{not-true, eqb-false, ne-eqb, leb-true, le-leb}
-use Rattle.lemmas.proofs.Tests.{same-test, and-intro, and-left, and-right}
+use Rattle.lemmas.proofs.Tests.{and-intro, and-left, and-right}
 use Rattle.lemmas.proofs.Any.{any-some, some-any}
-use Rattle.nodes.specs.Sets.{Inside, noNode, meet, members, size}
+use Rattle.nodes.specs.Sets.{Inside, meet, size}
 use Rattle.nodes.specs.Words.{num}
 use Rattle.nodes.proofs.Inside.{inside-of, of-inside}
-use Rattle.waits.specs.declared.numbers.Checked.{Checked}
-use Rattle.waits.specs.declared.numbers.Checked.the-variants.{Accepted, Refused}
-use Rattle.waits.specs.Deadlocked.{Deadlocked, outside, passes}
+use Rattle.waits.specs.declared.numbers.Checked.the-variants.{Accepted}
+use Rattle.waits.specs.Deadlocked.{Deadlocked}
 use Rattle.waits.specs.Rows.{rowAt, setsOf, liesIn, waitsOf}
-use Rattle.waits.specs.Numbers.{line, firstSaid}
 use Rattle.waits.proofs.Condition.{holds-0, holds-1, holds-2}
 use Rattle.waits.proofs.Table.{refused-not-accepted}
-use Rattle.waits.proofs.Lawful.{accepted-lawful}
 use Rattle.deadlock.specs.declared.claims.Claim.{Claim}
 use Rattle.deadlock.specs.declared.claims.Claim.the-variants.{Deadlocked as Claim·Deadlocked, NotDeadlocked as Claim·NotDeadlocked, Refused as Claim·Refused}
 use Rattle.deadlock.specs.declared.ring.Report.{Report}
 use Rattle.deadlock.specs.declared.ring.Report.the-variants.{InRing, BehindRing, NotDeadlocked, Refused as Report·Refused}
-use Rattle.deadlock.specs.declared.evidence.Judged.the-variants.{Passes, Fails}
-use Rattle.deadlock.specs.Refusals.{strangeEntry, askedLines, checkNodeOf, checkListOf}
+use Rattle.deadlock.specs.Refusals.{checkNodeOf}
 use Rattle.deadlock.specs.Claims.{ClaimSays}
 use Rattle.deadlock.specs.Ring.{LeadsTo, ReportSays}
-use Rattle.deadlock.specs.Evidence.{judged, judgedOf}
-use Rattle.deadlock.specs.Sweeps.{knot}
-use Rattle.deadlock.proofs.Refused.{node-accepted}
-use Rattle.deadlock.proofs.Passing.{in-outside, passes-iff, passes-same, passes-deadlocked}
-use Rattle.deadlock.proofs.Offered.{evidence-passes}
-use Rattle.deadlock.proofs.Answers.{to-ring, asked-evidence, judged-as}
+use Rattle.deadlock.proofs.Passing.{in-outside}
+use Rattle.deadlock.proofs.Answers.{to-ring}
 use Rattle.demands.specs.Demands.{Demand2}
+use Rattle.demands.proofs.Offered.{list-right, missing-right, member-right, list-same, some-list}
 
 module _ (n : ℕ) (rows : List ℕ) (i : ℕ) where
   -- ---- the published rules
@@ -77,43 +70,6 @@ module _ (n : ℕ) (rows : List ℕ) (i : ℕ) where
   ring-exactly ok d NotDeadlocked s = absurd (s .1 d)
   ring-exactly ok d (Report·Refused r) s = absurd (refused-not-accepted (sym s ∙ ok))
 
-  -- ---- lists: "passes" is answered only of one that passes
-  passed : (c : Checked) (b : Bool) → judged c (cond b Passes Fails) ≡ Passes → b ≡ true
-  passed Accepted true e = refl
-  passed Accepted false e = absurd (true≢false (cc e))
-  passed (Refused r) b e = absurd (true≢false (cc e))
-
-  judged-passed : (l : List ℕ) → judgedOf n rows i l ≡ Passes → passes (waitsOf n rows) i l ≡ true
-  unfolding judgedOf
-  judged-passed l e = passed (checkListOf n rows i l) (passes (waitsOf n rows) i l) e
-
-  pub list-right : (l : List ℕ) → checkListOf n rows i l ≡ Accepted
-      → (judgedOf n rows i l ≡ Passes) ↔ (List·Memᴰ i l × ((j : ℕ) → List·Memᴰ j l → waitsOf n rows .holds j (outside (waitsOf n rows) l) ≡ false))
-  list-right l ok =
-      let q = passes-iff (waitsOf n rows) i l in
-      (λ e. q .0 (judged-passed l e), λ h. sym (judged-as n rows i l true ok (q .1 h)))
-
-  -- order and repeats don't matter, neither for number 14 nor for what passes
-  strange-same : (l m : List ℕ) → ((j : ℕ) → List·Memᴰ j l ↔ List·Memᴰ j m) → strangeEntry n l ≡ strangeEntry n m
-  unfolding strangeEntry
-  strange-same l m f = same-test _ _ (carried l m f) (carried m l (λ j. (f j .1, f j .0)))
-    where
-      carried : (l m : List ℕ) → ((j : ℕ) → List·Memᴰ j l ↔ List·Memᴰ j m) → strangeEntry n l ≡ true → strangeEntry n m ≡ true
-      carried l m f e = let s = any-some (noNode n) l e in some-any (noNode n) m (s .0) (f (s .0) .0 (s .1)) (s .2)
-
-  pub list-same : (l m : List ℕ) → ((j : ℕ) → List·Memᴰ j l ↔ List·Memᴰ j m) → judgedOf n rows i l ≡ judgedOf n rows i m
-  unfolding judgedOf checkListOf
-  list-same l m f =
-      ap₂ (λ (x y : Bool). judged (firstSaid (askedLines n rows i (line 14 0 x ∷ []))) (cond y Passes Fails)) (strange-same l m f) (passes-same (waitsOf n rows) i l m f)
-
-  -- ---- a node is deadlocked exactly if some list passes for it
-  module _ (ok : checkNodeOf n rows i ≡ Accepted) where
-    pub some-list : Deadlocked (waitsOf n rows) i ↔ ((l : List ℕ) × (judgedOf n rows i l ≡ Passes))
-    some-list = (
-      λ d. (members (knot (waitsOf n rows) i), evidence-passes n rows i ok d _ (asked-evidence n rows i ok (knot (waitsOf n rows) i) refl)),
-      λ p. passes-deadlocked (waitsOf n rows) (accepted-lawful n rows (node-accepted n rows i ok .0)) i (p .0) (judged-passed (p .0) (p .1)),
-    )
-
 -- Theorem: the second demand, each field by itself.
 pub demand-2 : (n : ℕ) (rows : List ℕ) (i : ℕ) → Demand2 n rows i
 demand-2 n rows i = record {
@@ -127,6 +83,8 @@ demand-2 n rows i = record {
   to-ring = to-ring n rows i;
   list = list-right n rows i;
   those-outside = in-outside (waitsOf n rows);
+  claim-missing = missing-right n rows i;
+  member-satisfied = member-right n rows i;
   alike = list-same n rows i;
   link = some-list n rows i;
 }

@@ -2,6 +2,7 @@
 pub mod Said
 pub mod Asked
 pub mod Refused
+pub mod Offered
 pub mod Claims
 pub mod Stands
 pub mod Onward

@@ -1,16 +1,23 @@
 -- The table of the paper's small mornings, computed by the checker from the definitions. Assumes nothing.
-use mathlib.Core.Path.{_≡_, refl, ap}
+use mathlib.Core.Path.{_≡_, refl, sym, ap, _∙_}
 use mathlib.Core.Bool.{Bool, false, not, _&&_}
-use mathlib.Core.List.{[]}
+use mathlib.Core.List.{List, []}
 use Prim.Native.Nat.{ℕ}
 use lib.Dec.{lit<}
 use Rattle.lemmas.specs.Lists.{anyOf}
 use Rattle.nodes.specs.Sets.{setOf}
 use Rattle.nodes.proofs.Bit.{bit-empty, out-has}
+use Rattle.waits.specs.declared.numbers.Checked.the-variants.{Accepted}
 use Rattle.waits.specs.Waits.{Waits}
 use Rattle.waits.specs.Deadlocked.{outside, passes}
 use Rattle.waits.specs.Deadlocked.Path.{edge, then}
+use Rattle.waits.specs.Rows.{waitsOf}
 use Rattle.waits.specs.Mornings.{firstRows, secondRows, fourthRows, fifthRows, sixthRows, ninthRows, tenthRows}
+use Rattle.deadlock.specs.declared.evidence.Judged.the-variants.{ClaimMissing}
+use Rattle.deadlock.specs.Refusals.{strangeEntry, checkNodeOf}
+use Rattle.deadlock.specs.Evidence.{judgement, judgedOf}
+use Rattle.deadlock.proofs.Refused.{list-fine}
+use Rattle.deadlock.proofs.Judging.{judgement-missing, judged-as}
 use Rattle.deadlock.proofs.Answers.{not-in-ring, in-ring, behind-ring}
 use Rattle.bench.proofs.Open.{open-bench}
 use Rattle.rounds.proofs.Open.{open-rounds}
@@ -22,9 +29,14 @@ nobody-passes : (w : Waits) (i : ℕ) → passes w i [] ≡ false
 unfolding passes setOf
 nobody-passes w i = ap (λ (b : Bool). b && not (anyOf (λ j. w .holds j (outside w [])) [])) (out-has 0 i (bit-empty i))
 
+claim-lacking : (n : ℕ) (rows : List ℕ) (i : ℕ) → checkNodeOf n rows i ≡ Accepted → judgedOf n rows i [] ≡ ClaimMissing
+unfolding strangeEntry
+claim-lacking n rows i ok =
+    sym (judged-as n rows i [] (list-fine n rows i [] ok refl)) ∙ judgement-missing (waitsOf n rows) i [] .1 (λ m. elim m [ ])
+
 -- Theorem: all that the paper says of these mornings is so.
 pub table : Table
-unfolding open-bench open-rounds
+unfolding open-bench open-rounds judgement
 table = record {
   first = morning 7 firstRows refl refl refl;
   first-round = full-round 7 firstRows refl 0 (lit< tt) refl refl refl;
@@ -34,6 +46,7 @@ table = record {
   second-evidence = evidence 10 secondRows refl 0 (lit< tt) refl;
   third-passes = refl;
   third-fails = refl;
+  third-turned = refl;
   fourth = morning 2 fourthRows refl refl refl;
   fourth-round = (full-round 2 fourthRows refl 0 (lit< tt) refl refl refl, full-round 2 fourthRows refl 1 (lit< tt) refl refl refl);
   fourth-evidence = (evidence 2 fourthRows refl 0 (lit< tt) refl, evidence 2 fourthRows refl 1 (lit< tt) refl);
@@ -59,4 +72,5 @@ table = record {
   tenth-in = (in-ring 5 tenthRows 1 refl refl refl, in-ring 5 tenthRows 2 refl refl refl);
   tenth-free = (not-in-ring 5 tenthRows 3 refl refl, not-in-ring 5 tenthRows 4 refl refl);
   twelfth = nobody-passes;
+  twelfth-lacks = claim-lacking;
 }

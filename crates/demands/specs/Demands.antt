@@ -8,6 +8,7 @@ use mathlib.Core.Logic.{_⊎_, _↔_}
 use mathlib.Core.List.{List, [], _∷_, _++_, map, List·Memᴰ}
 use Prim.Native.Nat.{ℕ, _+_, _*_, _≤_, _<_}
 use lib.ListN.{length, take, drop}
+use Rattle.nodes.specs.declared.Node.{Node}
 use Rattle.nodes.specs.declared.Set.{Set}
 use Rattle.nodes.specs.Sets.{In, Inside, meet, size}
 use Rattle.nodes.specs.Words.{num}
@@ -28,7 +29,8 @@ use Rattle.deadlock.specs.declared.ring.Report.{Report}
 use Rattle.deadlock.specs.declared.ring.Report.the-variants.{InRing, NotDeadlocked as Report·NotDeadlocked, Refused as Report·Refused}
 use Rattle.deadlock.specs.declared.evidence.Written.{Written}
 use Rattle.deadlock.specs.declared.evidence.Written.the-variants.{Bytes, Refused as Written·Refused}
-use Rattle.deadlock.specs.declared.evidence.Judged.the-variants.{Passes, Refused as Judged·Refused}
+use Rattle.deadlock.specs.declared.evidence.Judged.{Judged}
+use Rattle.deadlock.specs.declared.evidence.Judged.the-variants.{Passes, ClaimMissing, MemberSatisfied, Refused as Judged·Refused}
 use Rattle.deadlock.specs.Refusals.{askedLines, listLines, roomLines, checkNodeOf, checkListOf}
 use Rattle.deadlock.specs.Claims.{FoundSays, ClaimSays}
 use Rattle.deadlock.specs.Ring.{LeadsTo, ReportSays}
@@ -100,8 +102,17 @@ module _ (n : ℕ) (rows : List ℕ) where
     pub list : (l : List ℕ) → checkListOf n rows i l ≡ Accepted
         → (judgedOf n rows i l ≡ Passes) ↔ (List·Memᴰ i l × ((j : ℕ) → List·Memᴰ j l → w .holds j (outside w l) ≡ false))
     pub those-outside : (l : List ℕ) (k : ℕ) → In k (outside w l) ↔ ((k < n) × (List·Memᴰ k l → ⊥))
-    -- "Whoever wrote the list, that is all that counts": order and repeats don't matter.
-    pub alike : (l m : List ℕ) → ((j : ℕ) → List·Memᴰ j l ↔ List·Memᴰ j m) → judgedOf n rows i l ≡ judgedOf n rows i m
+    -- The paper: of a list that doesn't pass it is said why: the claim isn't in it, and that is said first; or the first member, in the
+    -- list's order, whose condition the nodes outside satisfy.
+    pub claim-missing : (l : List ℕ) → checkListOf n rows i l ≡ Accepted → (judgedOf n rows i l ≡ ClaimMissing) ↔ (List·Memᴰ i l → ⊥)
+    pub member-satisfied : (l : List ℕ) → checkListOf n rows i l ≡ Accepted → (k : Node)
+        → (judgedOf n rows i l ≡ MemberSatisfied k)
+        ↔ (List·Memᴰ i l
+        × ((before : List ℕ) × (after : List ℕ) × (l ≡ before ++ k .0 ∷ after) × (w .holds (k .0) (outside w l) ≡ true)
+        × ((j : ℕ) → List·Memᴰ j before → w .holds j (outside w l) ≡ false)))
+    -- "Whoever wrote the list, that is all that counts": order and repeats don't matter, but for which member is the first.
+    pub alike : (l m : List ℕ) → ((j : ℕ) → List·Memᴰ j l ↔ List·Memᴰ j m) → (x : Judged) → ((k : Node) → x ≡ MemberSatisfied k → ⊥)
+        → (judgedOf n rows i l ≡ x) ↔ (judgedOf n rows i m ≡ x)
     -- The paper: a node is deadlocked exactly if some list passes for it.
     pub link : checkNodeOf n rows i ≡ Accepted → Deadlocked w i ↔ ((l : List ℕ) × (judgedOf n rows i l ≡ Passes))
 

@@ -14,8 +14,9 @@ use Rattle.waits.specs.Deadlocked.{Deadlocked as Dead, Path, passes}
 use Rattle.waits.specs.Rows.{waitsOf}
 use Rattle.waits.specs.Numbers.{checkOf}
 use Rattle.waits.specs.Mornings.{firstRows, secondRows, fourthRows, fifthRows, sixthRows, ninthRows, tenthRows}
-use Rattle.deadlock.specs.declared.evidence.Judged.the-variants.{Passes, Fails}
+use Rattle.deadlock.specs.declared.evidence.Judged.the-variants.{Passes, ClaimMissing, MemberSatisfied}
 use Rattle.deadlock.specs.declared.ring.Report.the-variants.{InRing, BehindRing, NotDeadlocked as Report·NotDeadlocked}
+use Rattle.deadlock.specs.Refusals.{checkNodeOf}
 use Rattle.deadlock.specs.Evidence.{Evidence, judgedOf}
 use Rattle.deadlock.specs.Ring.{ReportSays}
 use Rattle.step.specs.declared.answers.Verdict.{Verdict}
@@ -76,9 +77,10 @@ pub record Table : Type 0 where
   pub second : Morning 10 secondRows 14 (0 ∷ 2 ∷ 3 ∷ 4 ∷ 6 ∷ 7 ∷ 8 ∷ [])
   pub second-round : FullRound 10 secondRows 0 34 Deadlocked
   pub second-evidence : Evidence (waitsOf 10 secondRows) 0 (0 ∷ 2 ∷ 3 ∷ 4 ∷ 6 ∷ 7 ∷ 8 ∷ [])
-  -- 3: there {1, 3, 4, 5, 7, 8} passes for 1; {1, 3, 5} doesn't (4 is outside).
+  -- 3: there {1, 3, 4, 5, 7, 8} passes for 1; {1, 3, 5} doesn't (4 is outside). It fails at 1; from behind, at 3, which then comes first.
   pub third-passes : judgedOf 10 secondRows 0 (0 ∷ 2 ∷ 3 ∷ 4 ∷ 6 ∷ 7 ∷ []) ≡ Passes
-  pub third-fails : judgedOf 10 secondRows 0 (0 ∷ 2 ∷ 4 ∷ []) ≡ Fails
+  pub third-fails : judgedOf 10 secondRows 0 (0 ∷ 2 ∷ 4 ∷ []) ≡ MemberSatisfied (record { 0 = 0 })
+  pub third-turned : judgedOf 10 secondRows 0 (4 ∷ 2 ∷ 0 ∷ []) ≡ MemberSatisfied (record { 0 = 2 })
   -- 4: both deadlocked, 4 messages, from 1 or from 2. The evidence for either is both.
   pub fourth : Morning 2 fourthRows 2 (0 ∷ 1 ∷ [])
   pub fourth-round : FullRound 2 fourthRows 0 4 Deadlocked × FullRound 2 fourthRows 1 4 Deadlocked
@@ -115,5 +117,6 @@ pub record Table : Type 0 where
   pub tenth-behind : ReportSays 5 tenthRows 0 BehindRing
   pub tenth-in : ReportSays 5 tenthRows 1 InRing × ReportSays 5 tenthRows 2 InRing
   pub tenth-free : ReportSays 5 tenthRows 3 Report·NotDeadlocked × ReportSays 5 tenthRows 4 Report·NotDeadlocked
-  -- 12: the empty list passes for nobody, in any graph.
+  -- 12: the empty list passes for nobody, in any graph: it lacks the claim.
   pub twelfth : (w : Waits) (i : ℕ) → passes w i [] ≡ false
+  pub twelfth-lacks : (n : ℕ) (rows : List ℕ) (i : ℕ) → checkNodeOf n rows i ≡ Accepted → judgedOf n rows i [] ≡ ClaimMissing

@@ -2,6 +2,7 @@
 use crate::lines::about;
 use crate::lines::bytes;
 use crate::mornings::second;
+use crate::say::number;
 use crate::say::refusal;
 use crate::say::text;
 use deadlock::Judged;
@@ -15,7 +16,11 @@ pub fn judged(nodes: usize, rows: &[u64], node: usize, list: &[u8]) {
     let said = deadlock::check_evidence(nodes, rows, Node(node), list);
     match said {
         Judged::Passes => text(b"passes"),
-        Judged::Fails => text(b"fails"),
+        Judged::ClaimMissing => text(b"fails, the claim isn't in it"),
+        Judged::MemberSatisfied(k) => {
+            text(b"fails at member ");
+            number(k.0 as u64);
+        }
         Judged::Refused(r) => refusal(r),
     }
     text(b"\n");
@@ -25,11 +30,15 @@ fn offered(node: usize, list: &[u8]) {
     judged(10, &second(), node, list);
 }
 
-// Morning 3, in any order and with repeats too; and lists that lack the claim, or have one that can move.
+// Morning 3, in any order and with repeats too; and lists that lack the claim, or have one that can move. Some fail in more than
+// one way, so that it is seen which is said.
 pub fn third() {
     offered(0, &[0u8, 2, 3, 4, 6, 7]);
     offered(0, &[7u8, 0, 6, 2, 4, 3, 0, 7]);
     offered(0, &[0u8, 2, 4]);
+    offered(0, &[4u8, 2, 0]);
+    offered(0, &[4u8, 0, 2, 0]);
+    offered(8, &[0u8, 2, 4]);
     offered(8, &[0u8, 2, 3, 4, 6, 7]);
     offered(0, &[0u8, 2, 3, 4, 6, 7, 9]);
 }

@@ -9,7 +9,8 @@ use crate::graph::{count_is_bad, Rows, MOST_EDGES};
 use crate::lent::LentBench;
 use crate::library::LibraryCall::{self, *};
 use crate::library::SAID;
-use crate::reduction::{everyone, leads_back};
+use crate::questions::named;
+use crate::reduction::{everyone, leads_back, satisfied};
 use std::collections::BTreeMap;
 use std::fmt;
 
@@ -27,14 +28,17 @@ const JUDGES_OF_ROWS: [&str; 8] = [
 
 /// An opening never ends deadlocked: a node that isn't free has waits.
 #[rustfmt::skip]
-const EXPECTED: [(&str, &str); 24] = [
+const EXPECTED: [(&str, &str); 25] = [
     ("check:", "accepted, refused 1, refused 8"),
     ("deadlocked:", "no, yes, refused 1, refused 8, refused 9"),
     ("all_deadlocked:", "written, refused 1, refused 8"),
     ("write_evidence:", "none, some, refused 1, refused 8, refused 9, refused 15"),
     ("room for evidence:", "too small by one, too small by more, exact, larger by one, larger by more, of 0"),
-    ("check_evidence:", "fails, passes, refused 1, refused 8, refused 9, refused 14"),
+    ("check_evidence:", "passes, lacks the claim, lacks the claim with a member satisfied, fails at a member, \
+        refused 1, refused 8, refused 9, refused 14"),
     ("list of evidence:", "of 0, of 1, of 2 to 64, of 65 to 199, of 200 and more, of more than 64 and passing"),
+    ("member named:", "active, the claim, at the first place, at a later place, past 64 places, repeated, \
+        not the last satisfied, not the lowest satisfied"),
     ("ring:", "not deadlocked, in, behind, behind with a path back, refused 1, refused 8, refused 9"),
     ("open:", "120, 122, refused 1, refused 9, refused 10, refused 13"),
     ("open 13 for:", "IN, a record's round, a record's call, a record's freed, a record's set"),
@@ -60,6 +64,7 @@ const EXPECTED: [(&str, &str); 24] = [
 ];
 
 const LIST: &str = "message list";
+const MEMBER: &str = "member named";
 
 pub struct CallTally {
     counts: Counts,
@@ -85,6 +90,12 @@ impl CallTally {
         self.counts.add(format!("{group}: {ending}"));
     }
 
+    fn add_found(&mut self, seen: &[(bool, &str, &str)]) {
+        for (_, group, ending) in seen.iter().filter(|(found, ..)| *found) {
+            self.add(group, ending);
+        }
+    }
+
     /// Counts a call that has been made, by its result.
     pub fn count(&mut self, call: &LibraryCall, result: u64) {
         let name = name(call);
@@ -103,9 +114,10 @@ impl CallTally {
                 self.graph(rows);
                 self.room(rows, room.len());
             }
-            CheckEvidence(rows, _, list) => {
+            CheckEvidence(rows, node, list) => {
                 self.graph(rows);
                 self.list(list, result);
+                self.failing_list(rows, *node as usize, list, result);
             }
             Open(alone, _) => {
                 self.controller(alone);
@@ -171,6 +183,35 @@ impl CallTally {
         }
     }
 
+    /// Failing lists of which a careless judge might say something else: another fault, or another member.
+    fn failing_list(&mut self, rows: &Rows, node: usize, list: &[u8], result: u64) {
+        let (Some(said), Ok(graph)) = (result.checked_sub(SAID), rows.graph()) else {
+            return;
+        };
+        let list = named(list);
+        let satisfied = satisfied(&graph, &list);
+        let (first, last) = (satisfied.first(), satisfied.last());
+        let lowest = satisfied.iter().min();
+        match (said, first) {
+            (2, Some(_)) => self.add("check_evidence", "lacks the claim with a member satisfied"),
+            (256.., Some(member)) => self.add_found(&[
+                (graph.nodes[*member].is_active(), MEMBER, "active"),
+                (*member == node, MEMBER, "the claim"),
+                (*member == list[0], MEMBER, "at the first place"),
+                (*member != list[0], MEMBER, "at a later place"),
+                (
+                    list.iter().take(64).all(|at| at != member),
+                    MEMBER,
+                    "past 64 places",
+                ),
+                (satisfied[1..].contains(member), MEMBER, "repeated"),
+                (first != last, MEMBER, "not the last satisfied"),
+                (first != lowest, MEMBER, "not the lowest satisfied"),
+            ]),
+            _ => {}
+        }
+    }
+
     fn controller(&mut self, alone: &Alone) {
         let ending = match alone.nodes {
             1 => "1 node",
@@ -231,9 +272,7 @@ impl CallTally {
             ),
             (ran_full, LIST, "run full"),
         ];
-        for (_, group, ending) in seen.iter().filter(|(found, ..)| *found) {
-            self.add(group, ending);
-        }
+        self.add_found(&seen);
     }
 
     fn run(&mut self, bench: &LentBench, result: u64, steps: &[u64], answers: &[u64]) {

@@ -7,7 +7,7 @@ use crate::graph::{bits, Refusal, Rows};
 use crate::lent::LentBench;
 use crate::line::Line;
 use crate::questions;
-use crate::reduction;
+use crate::reduction::{self, Judged};
 use LibraryCall::*;
 
 /// What is said without a refusal stands above every refusal.
@@ -50,7 +50,11 @@ impl LibraryCall {
                 questions::write_evidence(rows, *node, room).map(|written| written as u64)
             }
             CheckEvidence(rows, node, list) => {
-                questions::list_passes(rows, *node, list).map(u64::from)
+                questions::judge_list(rows, *node, list).map(|judged| match judged {
+                    Judged::Passes => 1,
+                    Judged::ClaimMissing => 2,
+                    Judged::Satisfied(member) => 256 + member as u64,
+                })
             }
             Ring(rows, node) => questions::ring(rows, *node).map(|ring| match ring {
                 reduction::Ring::NotDeadlocked => 0,

@@ -6,7 +6,7 @@ use crate::graph::{Refusal, Row, Rows};
 use crate::morning_graphs::*;
 use crate::node::{Call, Verdict};
 use crate::questions;
-use crate::reduction::{self, Ring};
+use crate::reduction::{self, Judged, Ring};
 use crate::replay;
 use crate::script::Script;
 use std::fmt::Display;
@@ -54,12 +54,16 @@ fn mornings() -> Vec<String> {
     lines
 }
 
+/// Some fail in more than one way, so that it is seen which is said.
 fn lists() -> Vec<String> {
     let rows = morning_2();
     let mut lines = vec![
         about_list(&rows, 0, &[0, 2, 3, 4, 6, 7]),
         about_list(&rows, 0, &[7, 0, 6, 2, 4, 3, 0, 7]),
         about_list(&rows, 0, &[0, 2, 4]),
+        about_list(&rows, 0, &[4, 2, 0]),
+        about_list(&rows, 0, &[4, 0, 2, 0]),
+        about_list(&rows, 8, &[0, 2, 4]),
         about_list(&rows, 8, &[0, 2, 3, 4, 6, 7]),
         about_list(&rows, 0, &[0, 2, 3, 4, 6, 7, 9]),
     ];
@@ -253,12 +257,11 @@ fn about_order(label: &str, order: Order) -> Vec<String> {
 }
 
 fn about_list(rows: &Rows, node: u64, list: &[u8]) -> String {
-    let judged = said(questions::list_passes(rows, node, list), |passes| {
-        if passes {
-            "passes"
-        } else {
-            "fails"
-        }
+    let judged = questions::judge_list(rows, node, list);
+    let judged = said(judged, |judged| match judged {
+        Judged::Passes => String::from("passes"),
+        Judged::ClaimMissing => String::from("fails, the claim isn't in it"),
+        Judged::Satisfied(member) => format!("fails at member {member}"),
     });
     format!("list {} for {node}: {judged}", listed(list))
 }

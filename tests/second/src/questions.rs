@@ -1,7 +1,7 @@
 //! The calls on a whole graph as a clerk makes them: numbers in, an answer or a refusal out.
 
-use crate::graph::{Graph, NodeSet, Refusal, Rows};
-use crate::reduction::{self, Ring};
+use crate::graph::{Graph, Refusal, Rows};
+use crate::reduction::{self, Judged, Ring};
 
 /// Graph first, then 9: the beginning of every question.
 fn graph_and_node(rows: &Rows, node: u64) -> Result<(Graph, usize), Refusal> {
@@ -22,13 +22,19 @@ pub fn ring(rows: &Rows, node: u64) -> Result<Ring, Refusal> {
     Ok(reduction::ring(&graph, node))
 }
 
-pub fn list_passes(rows: &Rows, node: u64, list: &[u8]) -> Result<bool, Refusal> {
+/// What the bytes of a list name, whether such nodes exist or not.
+pub fn named(list: &[u8]) -> Vec<usize> {
+    list.iter().map(|entry| usize::from(*entry)).collect()
+}
+
+/// An entry that names no node is refused wherever it stands, also behind a member at which the list fails.
+pub fn judge_list(rows: &Rows, node: u64, list: &[u8]) -> Result<Judged, Refusal> {
     let (graph, node) = graph_and_node(rows, node)?;
-    let named: NodeSet = list.iter().map(|entry| usize::from(*entry)).collect();
-    if named.iter().any(|entry| *entry >= graph.len()) {
+    let list = named(list);
+    if list.iter().any(|entry| *entry >= graph.len()) {
         return Err(Refusal::plain(14));
     }
-    Ok(reduction::list_passes(&graph, node, &named))
+    Ok(reduction::judge_list(&graph, node, &list))
 }
 
 /// Writes the evidence at the front of the room; every other byte stays as it was.

@@ -80,9 +80,29 @@ pub fn ring(graph: &Graph, node: usize) -> Ring {
     }
 }
 
+/// The members whose condition the nodes outside the list satisfy, in its order and as often as it names them.
+pub fn satisfied(graph: &Graph, list: &[usize]) -> Vec<usize> {
+    let inside: NodeSet = list.iter().copied().collect();
+    let outside = &everyone(graph) - &inside;
+    let holds = |member: &usize| graph.nodes[*member].condition.holds(&outside);
+    list.iter().copied().filter(holds).collect()
+}
+
+pub enum Judged {
+    Passes,
+    ClaimMissing,
+    /// The first member, in the list's order, whose condition the nodes outside satisfy.
+    Satisfied(usize),
+}
+
 /// Whether the list is evidence for the node: it names the node, and the nodes outside it satisfy no member.
-pub fn list_passes(graph: &Graph, node: usize, list: &NodeSet) -> bool {
-    let outside = &everyone(graph) - list;
-    let satisfied = |member: &usize| graph.nodes[*member].condition.holds(&outside);
-    list.contains(&node) && !list.iter().any(satisfied)
+/// Without the node it is none whatever its members wait for, so that is said first.
+pub fn judge_list(graph: &Graph, node: usize, list: &[usize]) -> Judged {
+    if !list.contains(&node) {
+        return Judged::ClaimMissing;
+    }
+    match satisfied(graph, list).first() {
+        Some(member) => Judged::Satisfied(*member),
+        None => Judged::Passes,
+    }
 }

@@ -1,9 +1,8 @@
 -- `check_evidence` meets its contract. Assumes nothing.
 use mathlib.Core.Path.{sym, _∙_}
-use mathlib.Core.Bool.{true, false}
 use borrow.Author.Needs.{needs}
-use Rattle.lemmas.proofs.Cases.{flag}
-use Rattle.deadlock.proofs.Answers.{list-shaped, judged-refused, judged-as}
+use Rattle.deadlock.proofs.Judging.{judged-refused, judged-as}
+use Rattle.deadlock.proofs.Answers.{list-shaped}
 use Rattle.deadlock.proofs.evidence.check_evidence.Statement.{statement}
 use Rattle.deadlock.proofs.evidence.check_evidence.Tie as tie
 
@@ -19,14 +18,11 @@ returns c = judged-refused _ _ _ _ (sym (c .before .before .before .check-list .
 enum-told : tie.Need-enum-told
 enum-told c = search needs
 
-list-passes-requires : tie.Need-list-passes-requires
-list-passes-requires c κs = list-shaped _ _ _ _ (sym (c .before .before .check-list .ensures) ∙ (c .enum-told .given .1))
+judge-requires : tie.Need-judge-requires
+judge-requires c κs = list-shaped _ _ _ _ (sym (c .before .before .check-list .ensures) ∙ (c .enum-told .given .1))
 
 returns-2 : tie.Need-returns-2
-returns-2 c = judged-as _ _ _ _ true (sym (c .before .before .before .before .check-list .ensures) ∙ (c .before .before .enum-told .given .1)) (flag (c .before .list-passes .ensures) (c .if1 .taken))
-
-returns-3 : tie.Need-returns-3
-returns-3 c = judged-as _ _ _ _ false (sym (c .before .before .before .before .check-list .ensures) ∙ (c .before .before .enum-told .given .1)) (flag (c .before .list-passes .ensures) (c .if1 .left))
+returns-2 c = (c .judge .ensures) ∙ judged-as _ _ _ _ (sym (c .before .before .before .check-list .ensures) ∙ (c .before .enum-told .given .1))
 
 pub check-evidence-spec : {M : Type 1} → statement M
 check-evidence-spec =
@@ -36,6 +32,5 @@ check-evidence-spec =
     enum-known-checked
     returns
     enum-told
-    list-passes-requires
-    returns-2
-    returns-3)
+    judge-requires
+    returns-2)
