@@ -1,7 +1,7 @@
 -- What is said of a list that is offered: the walk along its members, and what each answer means. Assumes nothing.
 use mathlib.Core.Path.{_≡_, refl, sym, ap, _∙_}
 use mathlib.Core.Bool.{Bool, true, false, cond, true≢false}
-use mathlib.Core.Logic.{⊎-elim, _↔_}
+use mathlib.Core.Logic.{_⊎_, inl, inr, _↔_}
 use mathlib.Core.List.{List, [], _∷_, _++_, List·Memᴰ, Memᴰ·append-right}
 use mathlib.Core.List.List·Memᴰ.{List·Memᴰ·head as here, List·Memᴰ·tail as there}
 use Prim.Native.Nat.{ℕ, suc, _+_, _≤_, _<_}
@@ -112,19 +112,11 @@ module _ (w : Waits) (i : ℕ) (l : List ℕ) where
 
   -- anything else is said of a list that has it, by what its members need
   of-members : {y : Judged} {Q : Type 0} → (ClaimMissing ≡ y → ⊥) → (firstSatisfied w (outside w l) l ≡ y) ↔ Q → (judgement w i l ≡ y) ↔ (List·Memᴰ i l × Q)
-  of-members apart f = (
-    λ e.
-        let m = is-there (λ h. apart (sym (not-there h) ∙ e)) in
-        (m, f .0 (sym (asked-members m) ∙ e)),
-    λ p. asked-members (p .0) ∙ f .1 (p .1),
-  )
+  of-members {y} {Q} apart f = (λ e. by-claim e (true-or-false (has (setOf l) i)), λ p. asked-members (p .0) ∙ f .1 (p .1))
     where
-      is-there : ((List·Memᴰ i l → ⊥) → ⊥) → List·Memᴰ i l
-      is-there h =
-          ⊎-elim
-          (λ (e : has (setOf l) i ≡ true). in-list l i (has-in (setOf l) i e))
-          (λ (e : has (setOf l) i ≡ false). absurd (h (λ m. not-both (in-has (setOf l) i (list-in l i m)) e)))
-          (true-or-false (has (setOf l) i))
+      by-claim : judgement w i l ≡ y → (has (setOf l) i ≡ true) ⊎ (has (setOf l) i ≡ false) → List·Memᴰ i l × Q
+      by-claim e (inl h) = let m = in-list l i (has-in (setOf l) i h) in (m, f .0 (sym (asked-members m) ∙ e))
+      by-claim e (inr h) = absurd (apart (sym (not-there (λ m. not-both (in-has (setOf l) i (list-in l i m)) h)) ∙ e))
 
   -- Law: a list is said to pass exactly if it passes.
   pub judgement-passes : (judgement w i l ≡ Passes) ↔ (passes w i l ≡ true)
@@ -155,7 +147,7 @@ module _ (n : ℕ) (rows : List ℕ) (i : ℕ) (l : List ℕ) where
   unfolding judgedOf
   judged-as e = sym (ap (λ (x : Checked). judged x (judgement (waitsOf n rows) i l)) e)
 
-  -- Law: the answer is a refusal exactly if the list is refused,
+  -- Law: the answer is a refusal exactly if the list is refused with it;
   pub judged-refusal : (r : Refusal) → (judgedOf n rows i l ≡ Judged·Refused r) ↔ (checkListOf n rows i l ≡ Refused r)
   unfolding judgedOf
   judged-refusal r = by-check (checkListOf n rows i l) (judgement (waitsOf n rows) i l) (judgement-plain (waitsOf n rows) i l r)
@@ -164,7 +156,7 @@ module _ (n : ℕ) (rows : List ℕ) (i : ℕ) (l : List ℕ) where
       by-check Accepted x plain = (λ e. absurd (plain e), λ e. absurd (refused-not-accepted (sym e)))
       by-check (Refused t) x plain = (λ e. let same : t ≡ r = cc e in ap Refused same, λ e. let same : t ≡ r = cc e in ap Judged·Refused same)
 
-  -- Law: and any other exactly if it isn't and the answer is what is said of it then.
+  -- Law: and it is anything else exactly if the list isn't refused and that is what is said of it.
   pub judged-said : (y : Judged) → ((r : Refusal) → y ≡ Judged·Refused r → ⊥)
       → (judgedOf n rows i l ≡ y) ↔ ((checkListOf n rows i l ≡ Accepted) × (judgement (waitsOf n rows) i l ≡ y))
   judged-said y plain = (by-check (checkListOf n rows i l) refl, λ p. sym (judged-as (p .0)) ∙ p .1)

@@ -1,7 +1,7 @@
--- The second demand: what meets a condition, and who is called deadlocked. Assumes nothing.
+-- The second demand: what meets a condition, and who is called deadlocked; with what is said of lists. Assumes nothing.
 use mathlib.Core.Path.{_≡_, refl, sym, ap, _∙_}
 use mathlib.Core.Bool.{true, not, true≢false}
-use mathlib.Core.Logic.{_↔_}
+use mathlib.Core.Logic.{_↔_, Iff·trans}
 use mathlib.Core.List.{List, List·Memᴰ}
 use Prim.Native.Nat.{ℕ, _≤_}
 use lib.Dec.{eqb}
@@ -23,10 +23,11 @@ use Rattle.deadlock.specs.declared.ring.Report.the-variants.{InRing, BehindRing
 use Rattle.deadlock.specs.Refusals.{checkNodeOf}
 use Rattle.deadlock.specs.Claims.{ClaimSays}
 use Rattle.deadlock.specs.Ring.{LeadsTo, ReportSays}
-use Rattle.deadlock.proofs.Passing.{in-outside}
+use Rattle.deadlock.proofs.Passing.{in-outside, passes-iff}
+use Rattle.deadlock.proofs.Judging.{judgement-missing, judgement-passes, judgement-member}
 use Rattle.deadlock.proofs.Answers.{to-ring}
 use Rattle.demands.specs.Demands.{Demand2}
-use Rattle.demands.proofs.Offered.{list-right, missing-right, member-right, list-same, some-list}
+use Rattle.demands.proofs.Offered.{answered, list-same, some-list}
 
 module _ (n : ℕ) (rows : List ℕ) (i : ℕ) where
   -- ---- the published rules
@@ -81,10 +82,10 @@ demand-2 n rows i = record {
   ring = ring-right n rows i;
   in-ring = ring-exactly n rows i;
   to-ring = to-ring n rows i;
-  list = list-right n rows i;
+  list = λ l ok. Iff·trans (answered n rows i l ok) (Iff·trans (judgement-passes (waitsOf n rows) i l) (passes-iff (waitsOf n rows) i l));
   those-outside = in-outside (waitsOf n rows);
-  claim-missing = missing-right n rows i;
-  member-satisfied = member-right n rows i;
+  claim-missing = λ l ok. Iff·trans (answered n rows i l ok) (judgement-missing (waitsOf n rows) i l);
+  member-satisfied = λ l ok k. Iff·trans (answered n rows i l ok) (judgement-member (waitsOf n rows) i l k);
   alike = list-same n rows i;
   link = some-list n rows i;
 }

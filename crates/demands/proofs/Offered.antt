@@ -1,15 +1,16 @@
 -- The second demand: what is answered of a list that is offered as evidence. Assumes nothing.
 use mathlib.Core.Path.{_≡_, refl, sym, ap, _∙_}
-use mathlib.Core.Bool.{Bool, true, false, true≢false}
-use mathlib.Core.Logic.{_↔_, Iff·trans}
-use mathlib.Core.List.{List, [], _∷_, _++_, List·Memᴰ}
+use mathlib.Core.Bool.{Bool, true, true≢false}
+use mathlib.Core.Logic.{_↔_}
+use mathlib.Core.List.{List, [], _∷_, List·Memᴰ}
 use Prim.Native.Nat.{ℕ}
 use Rattle.lemmas.proofs.Tests.{same-test}
 use Rattle.lemmas.proofs.Any.{any-some, some-any}
 use Rattle.nodes.specs.declared.Node.{Node}
 use Rattle.nodes.specs.Sets.{noNode, members}
+use Rattle.waits.specs.declared.numbers.Refusal.{Refusal}
 use Rattle.waits.specs.declared.numbers.Checked.the-variants.{Accepted}
-use Rattle.waits.specs.Deadlocked.{Deadlocked, outside}
+use Rattle.waits.specs.Deadlocked.{Deadlocked}
 use Rattle.waits.specs.Rows.{waitsOf}
 use Rattle.waits.specs.Numbers.{line, firstSaid}
 use Rattle.waits.proofs.Lawful.{accepted-lawful}
@@ -19,29 +20,15 @@ use Rattle.deadlock.specs.Refusals.{strangeEntry, askedLines, checkNodeOf, chec
 use Rattle.deadlock.specs.Evidence.{judgement, judgedOf}
 use Rattle.deadlock.specs.Sweeps.{knot}
 use Rattle.deadlock.proofs.Refused.{node-accepted}
-use Rattle.deadlock.proofs.Passing.{passes-iff, passes-same, passes-deadlocked}
-use Rattle.deadlock.proofs.Judging.{judgement-missing, judgement-passes, judgement-member, judged-as, judged-refusal, judged-said}
+use Rattle.deadlock.proofs.Passing.{passes-same, passes-deadlocked}
+use Rattle.deadlock.proofs.Judging.{judgement-missing, judgement-passes, judged-as, judged-refusal, judged-said}
 use Rattle.deadlock.proofs.Offered.{evidence-passes}
 use Rattle.deadlock.proofs.Answers.{asked-evidence}
 
 module _ (n : ℕ) (rows : List ℕ) (i : ℕ) where
-  -- ---- each answer, of a list that isn't refused
-  module _ (l : List ℕ) (ok : checkListOf n rows i l ≡ Accepted) where
-    answered : {y : Judged} → (judgedOf n rows i l ≡ y) ↔ (judgement (waitsOf n rows) i l ≡ y)
-    answered = (λ e. judged-as n rows i l ok ∙ e, λ e. sym (judged-as n rows i l ok) ∙ e)
-
-    pub list-right : (judgedOf n rows i l ≡ Passes) ↔ (List·Memᴰ i l × ((j : ℕ) → List·Memᴰ j l → waitsOf n rows .holds j (outside (waitsOf n rows) l) ≡ false))
-    list-right = Iff·trans answered (Iff·trans (judgement-passes (waitsOf n rows) i l) (passes-iff (waitsOf n rows) i l))
-
-    pub missing-right : (judgedOf n rows i l ≡ ClaimMissing) ↔ (List·Memᴰ i l → ⊥)
-    missing-right = Iff·trans answered (judgement-missing (waitsOf n rows) i l)
-
-    pub member-right : (k : Node)
-        → (judgedOf n rows i l ≡ MemberSatisfied k)
-        ↔ (List·Memᴰ i l
-        × ((before : List ℕ) × (after : List ℕ) × (l ≡ before ++ k .0 ∷ after) × (waitsOf n rows .holds (k .0) (outside (waitsOf n rows) l) ≡ true)
-        × ((j : ℕ) → List·Memᴰ j before → waitsOf n rows .holds j (outside (waitsOf n rows) l) ≡ false)))
-    member-right k = Iff·trans answered (judgement-member (waitsOf n rows) i l k)
+  -- ---- a list that isn't refused
+  pub answered : (l : List ℕ) → checkListOf n rows i l ≡ Accepted → {y : Judged} → (judgedOf n rows i l ≡ y) ↔ (judgement (waitsOf n rows) i l ≡ y)
+  answered l ok = (λ e. judged-as n rows i l ok ∙ e, λ e. sym (judged-as n rows i l ok) ∙ e)
 
   -- ---- order and repeats don't matter, neither for number 14 nor for what is said, but for the member that is named
   abbrev Alike : List ℕ → List ℕ → Type 0
@@ -61,20 +48,23 @@ module _ (n : ℕ) (rows : List ℕ) (i : ℕ) where
   unfolding checkListOf
   check-same l m f = ap (λ (x : Bool). firstSaid (askedLines n rows i (line 14 0 x ∷ []))) (sym (strange-same l m f))
 
-  answer-carried : (x : Judged) → ((k : Node) → x ≡ MemberSatisfied k → ⊥) → (l m : List ℕ) → Alike l m → judgedOf n rows i l ≡ x → judgedOf n rows i m ≡ x
-  answer-carried Passes nameless l m f e =
-      let (ok, said) = judged-said n rows i l Passes (λ r q. true≢false (cc q)) .0 e in
-      let passing = sym (passes-same (waitsOf n rows) i l m f) ∙ judgement-passes (waitsOf n rows) i l .0 said in
-      judged-said n rows i m Passes (λ r q. true≢false (cc q)) .1 (check-same l m f ∙ ok, judgement-passes (waitsOf n rows) i m .1 passing)
-  answer-carried ClaimMissing nameless l m f e =
-      let (ok, said) = judged-said n rows i l ClaimMissing (λ r q. true≢false (cc q)) .0 e in
-      let lacking : List·Memᴰ i m → ⊥ = λ k. judgement-missing (waitsOf n rows) i l .0 said (f i .1 k) in
-      judged-said n rows i m ClaimMissing (λ r q. true≢false (cc q)) .1 (check-same l m f ∙ ok, judgement-missing (waitsOf n rows) i m .1 lacking)
-  answer-carried (MemberSatisfied k) nameless l m f e = absurd (nameless k refl)
-  answer-carried (Judged·Refused r) nameless l m f e = judged-refusal n rows i m r .1 (check-same l m f ∙ judged-refusal n rows i l r .0 e)
+  module _ (l m : List ℕ) (f : Alike l m) where
+    said-carried : (x : Judged) → ((r : Refusal) → x ≡ Judged·Refused r → ⊥) → (judgement (waitsOf n rows) i l ≡ x → judgement (waitsOf n rows) i m ≡ x)
+        → judgedOf n rows i l ≡ x → judgedOf n rows i m ≡ x
+    said-carried x plain g e = let p = judged-said n rows i l x plain .0 e in judged-said n rows i m x plain .1 (check-same l m f ∙ p .0, g (p .1))
+
+    answer-carried : (x : Judged) → ((k : Node) → x ≡ MemberSatisfied k → ⊥) → judgedOf n rows i l ≡ x → judgedOf n rows i m ≡ x
+    answer-carried Passes nameless =
+        said-carried Passes (λ r q. true≢false (cc q))
+        (λ e. judgement-passes (waitsOf n rows) i m .1 (sym (passes-same (waitsOf n rows) i l m f) ∙ judgement-passes (waitsOf n rows) i l .0 e))
+    answer-carried ClaimMissing nameless =
+        said-carried ClaimMissing (λ r q. true≢false (cc q))
+        (λ e. judgement-missing (waitsOf n rows) i m .1 (λ k. judgement-missing (waitsOf n rows) i l .0 e (f i .1 k)))
+    answer-carried (MemberSatisfied k) nameless = absurd (nameless k refl)
+    answer-carried (Judged·Refused r) nameless = λ e. judged-refusal n rows i m r .1 (check-same l m f ∙ judged-refusal n rows i l r .0 e)
 
   pub list-same : (l m : List ℕ) → Alike l m → (x : Judged) → ((k : Node) → x ≡ MemberSatisfied k → ⊥) → (judgedOf n rows i l ≡ x) ↔ (judgedOf n rows i m ≡ x)
-  list-same l m f x nameless = (answer-carried x nameless l m f, answer-carried x nameless m l (turned l m f))
+  list-same l m f x nameless = (answer-carried l m f x nameless, answer-carried m l (turned l m f) x nameless)
 
   -- ---- a node is deadlocked exactly if some list passes for it
   module _ (ok : checkNodeOf n rows i ≡ Accepted) where
