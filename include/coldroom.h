@@ -107,9 +107,9 @@ uint64_t coldroom_write_evidence(uint64_t nodes, const uint64_t *rows, uint64_t 
                                  uint8_t *room, uint64_t room_length);
 
 /* Whether a list of nodes, a byte each, passes as evidence for a node: the node is in it, and no member's condition holds when
- * every node outside the list grants. If not, why. Value 1: it passes. 2: the node isn't in it. 256 + k: the node is in it, and k is
- * the first member, in the list's order, whose condition so holds; k may be active, and may be the node itself. Order and repeats
- * don't matter, but for which member is the first. Refused by 1 to 8, 9, 14. */
+ * every node outside the list grants; and if it fails, why. Value 1, and only 1: it passes. 2: the node isn't in it. 256 + k: the
+ * node is in it, and k is the first member, in the list's order, whose condition so holds; k may be active, and may be the node
+ * itself. Order and repeats don't matter, but for which member is the first. Refused by 1 to 8, 9, 14. */
 uint64_t coldroom_check_evidence(uint64_t nodes, const uint64_t *rows, uint64_t rows_length, uint64_t node,
                                  const uint8_t *list, uint64_t list_length);
 
