@@ -15,7 +15,7 @@ use Rattle.waits.specs.Rows.{waitsOf}
 use Rattle.waits.specs.Mornings.{firstRows, secondRows, fourthRows, fifthRows, sixthRows, ninthRows, tenthRows}
 use Rattle.deadlock.specs.declared.evidence.Judged.the-variants.{ClaimMissing}
 use Rattle.deadlock.specs.Refusals.{strangeEntry, checkNodeOf}
-use Rattle.deadlock.specs.Evidence.{judgement, judgedOf}
+use Rattle.deadlock.specs.Evidence.{judgedOf}
 use Rattle.deadlock.proofs.Refused.{list-fine}
 use Rattle.deadlock.proofs.Judging.{judgement-missing, judged-as}
 use Rattle.deadlock.proofs.Answers.{not-in-ring, in-ring, behind-ring}
@@ -36,7 +36,7 @@ claim-lacking n rows i ok =
 
 -- Theorem: all that the paper says of these mornings is so.
 pub table : Table
-unfolding open-bench open-rounds judgement
+unfolding open-bench open-rounds
 table = record {
   first = morning 7 firstRows refl refl refl;
   first-round = full-round 7 firstRows refl 0 (lit< tt) refl refl refl;
