@@ -1,6 +1,5 @@
 -- `judge` meets its contract. Assumes nothing.
 use mathlib.Core.Path.{refl}
-use Prim.Native.Nat.{_-_}
 use borrow.Author.Tests.{not-true, not-false}
 use borrow.Author.Needs.{needs}
 use Rattle.lemmas.proofs.Cases.{at-true, at-false}
