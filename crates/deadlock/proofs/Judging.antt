@@ -4,13 +4,12 @@ use mathlib.Core.Bool.{Bool, true, false, cond, true≢false}
 use mathlib.Core.Logic.{_⊎_, inl, inr, _↔_}
 use mathlib.Core.List.{List, [], _∷_, _++_, List·Memᴰ, Memᴰ·append-right}
 use mathlib.Core.List.List·Memᴰ.{List·Memᴰ·head as here, List·Memᴰ·tail as there}
-use Prim.Native.Nat.{ℕ, suc, _+_, _≤_, _<_}
-use native.Mathlib.Numerals.{add-one}
-use lib.ListN.{length, getD, drop, drop-of-length-le}
-use lib.Seq.{drop-cons}
+use Prim.Native.Nat.{ℕ, _+_, _≤_, _<_}
+use lib.ListN.{length, getD}
 use borrow.Author.Tests.{leb-false}
 use Rattle.lemmas.proofs.Tests.{not-both, not-true-false, true-or-false}
 use Rattle.lemmas.proofs.Cases.{at-true, at-false, both-branches}
+use Rattle.lemmas.proofs.Walks.{Left, left-next, left-passed, left-ended}
 use Rattle.lemmas.proofs.Any.{some-any}
 use Rattle.nodes.specs.declared.Node.{Node}
 use Rattle.nodes.specs.Sets.{has, setOf, noNode}
@@ -33,20 +32,17 @@ use Rattle.deadlock.proofs.Refused.{list-accepted}
 module _ (w : Waits) (g : ℕ) where
   -- ---- a walk that asks one member after another: the answer is that of the members from a place on
   abbrev pub FirstLeft : List ℕ → ℕ → Type 0
-  FirstLeft l at = firstSatisfied w g l ≡ firstSatisfied w g (drop at l)
+  FirstLeft l at = Left (firstSatisfied w g) l at
 
   module _ (l : List ℕ) (at : ℕ) (left : FirstLeft l at) where
-    first-next : at < length l → firstSatisfied w g l ≡ firstSatisfied w g (getD l at 0 ∷ drop (suc at) l)
-    first-next h = left ∙ ap (firstSatisfied w g) (drop-cons l at 0 h)
-
     pub first-passed : at < length l → w .holds (getD l at 0) g ≡ false → FirstLeft l (at + 1)
-    first-passed h e = rw (add-one at) (first-next h ∙ sym (at-false _ e refl))
+    first-passed h e = left-passed (firstSatisfied w g) l at left h (sym (at-false _ e refl))
 
     pub first-found : {k : Node} → at < length l → k .0 ≡ getD l at 0 → w .holds (getD l at 0) g ≡ true → MemberSatisfied k ≡ firstSatisfied w g l
-    first-found h q e = at-true _ e (ap (λ (x : ℕ). MemberSatisfied (record { 0 = x })) q) ∙ sym (first-next h)
+    first-found h q e = at-true _ e (ap (λ (x : ℕ). MemberSatisfied (record { 0 = x })) q) ∙ sym (left-next (firstSatisfied w g) l at left h)
 
     pub first-ended : length l ≤ at → Passes ≡ firstSatisfied w g l
-    first-ended h = sym (left ∙ ap (firstSatisfied w g) (drop-of-length-le l h))
+    first-ended h = left-ended (firstSatisfied w g) l at left h
 
   -- ---- what it means
   -- no answer but these two

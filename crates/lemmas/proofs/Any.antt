@@ -8,9 +8,9 @@ use Prim.Native.Nat.{ℕ, zero, suc, _+_, _≤_, _<_}
 use native.Mathlib.Nat.{not-suc-le-zero, le-of-suc-le-suc, eq-or-lt-of-le}
 use native.Mathlib.Numerals.{add-one}
 use native.Mathlib.Omega.{arith}
-use lib.ListN.{length, getD, drop, drop-of-length-le}
-use lib.Seq.{drop-cons}
+use lib.ListN.{length, getD, drop}
 use Rattle.lemmas.specs.Lists.{anyOf, anyBelow}
+use Rattle.lemmas.proofs.Walks.{Left, left-next, left-passed, left-ended}
 use Rattle.lemmas.proofs.Tests.{not-both, or-left-false, or-right-false, or-cases, or-intro-left, or-intro-right}
 
 -- ---- a test of some member
@@ -48,20 +48,17 @@ any-weaker p q (a ∷ l) h e = ap₂ _||_ (h a (or-left-false (p a) (anyOf p l) 
 
 -- ---- a walk that tests one number after another: the answer is that of the numbers from a place on
 abbrev pub AnyLeft : (ℕ → Bool) → List ℕ → ℕ → Type 0
-AnyLeft p l at = anyOf p l ≡ anyOf p (drop at l)
+AnyLeft p l at = Left (anyOf p) l at
 
 module _ (p : ℕ → Bool) (l : List ℕ) (at : ℕ) (left : AnyLeft p l at) where
-  any-next : at < length l → anyOf p l ≡ (p (getD l at 0) || anyOf p (drop (suc at) l))
-  any-next h = left ∙ ap (anyOf p) (drop-cons l at 0 h)
-
   pub any-passed : at < length l → p (getD l at 0) ≡ false → AnyLeft p l (at + 1)
-  any-passed h e = rw (add-one at) (any-next h ∙ ap (λ (b : Bool). b || anyOf p (drop (suc at) l)) e)
+  any-passed h e = left-passed (anyOf p) l at left h (ap (λ (b : Bool). b || anyOf p (drop (suc at) l)) e)
 
   pub any-found : at < length l → p (getD l at 0) ≡ true → true ≡ anyOf p l
-  any-found h e = sym (any-next h ∙ ap (λ (b : Bool). b || anyOf p (drop (suc at) l)) e)
+  any-found h e = sym (left-next (anyOf p) l at left h ∙ ap (λ (b : Bool). b || anyOf p (drop (suc at) l)) e)
 
   pub any-ended : length l ≤ at → false ≡ anyOf p l
-  any-ended h = sym (left ∙ ap (anyOf p) (drop-of-length-le l h))
+  any-ended h = left-ended (anyOf p) l at left h
 
 -- ---- a test of some number below n
 pub none-below : (p : ℕ → Bool) (n i : ℕ) → i < n → anyBelow p n ≡ false → p i ≡ false
