@@ -38,6 +38,7 @@
  *   13  a record, a message or the state of a bench that can't be; see each call
  *   14  an entry of the list names no node
  *   15  the lent room is too small
+ *   18  the list isn't strictly ascending
  */
 #ifndef COLDROOM_H
 #define COLDROOM_H
@@ -101,15 +102,15 @@ uint64_t coldroom_deadlocked(uint64_t nodes, const uint64_t *rows, uint64_t rows
 uint64_t coldroom_all_deadlocked(uint64_t nodes, const uint64_t *rows, uint64_t rows_length, uint64_t *set);
 
 /* Writes the evidence that a node is deadlocked: every deadlocked node that it reaches by any path of waits, itself included,
- * ascending, a byte each. The value is how many bytes were written: none if it isn't deadlocked. The bytes after them stay.
- * Refused by 1 to 8, 9, and 15 if room_length is below nodes. */
+ * ascending, a byte each. The value is how many bytes were written: none if it isn't deadlocked. The bytes after them stay. What
+ * was written is never refused as a list below. Refused by 1 to 8, 9, and 15 if room_length is below nodes. */
 uint64_t coldroom_write_evidence(uint64_t nodes, const uint64_t *rows, uint64_t rows_length, uint64_t node,
                                  uint8_t *room, uint64_t room_length);
 
-/* Whether a list of nodes, a byte each, passes as evidence for a node: the node is in it, and no member's condition holds when
- * every node outside the list grants; and if it fails, why. Value 1, and only 1: it passes. 2: the node isn't in it. 256 + k: the
- * node is in it, and k is the first member, in the list's order, whose condition so holds; k may be active, and may be the node
- * itself. Order and repeats don't matter, but for which member is the first. Refused by 1 to 8, 9, 14. */
+/* Whether a list of nodes, a byte each, strictly ascending, passes as evidence for a node: the node is in it, and no member's
+ * condition holds when every node outside the list grants; and if it fails, why. Value 1, and only 1: it passes. 2: the node isn't
+ * in it. 256 + k: the node is in it, and k is the first member, the lowest, whose condition so holds; k may be active, and may be
+ * the node itself. Refused by 1 to 8, 9; then 14 if any entry names no node; then 18 if any entry isn't above the one before it. */
 uint64_t coldroom_check_evidence(uint64_t nodes, const uint64_t *rows, uint64_t rows_length, uint64_t node,
                                  const uint8_t *list, uint64_t list_length);
 

@@ -76,12 +76,16 @@ static void draw_graph(void)
     node = below(9) ? below(nodes + 1) : drawn();
 }
 
+/* An ascending list, mostly: any other is refused before anything is asked of its members. */
 static void draw_lists(void)
 {
-    list_len = below(NODES + 1);
+    list_len = 0;
     room_len = below(9) ? NODES : below(NODES);
-    for (uint64_t k = 0; k < list_len; k++)
-        list[k] = (uint8_t)(nodes ? below(nodes + (below(9) == 0)) : 0);
+    for (uint64_t k = 0; k < nodes && k < NODES; k++)
+        if (below(2))
+            list[list_len++] = (uint8_t)k;
+    if (list_len && below(9) == 0)
+        list[below(list_len)] = (uint8_t)below(nodes + 1);
 }
 
 /* A step that may well be taken: a new round, or any of the newest messages. */

@@ -24,7 +24,7 @@ use Rattle.waits.specs.Rows.{rowAt, waitsOf}
 use Rattle.waits.specs.Numbers.{Line, line, strangeCount, wrongCount, manyEdges, rowLines, rowsLines, firstSaid, checkOf}
 use Rattle.waits.proofs.Cases.{count-fits}
 use Rattle.waits.proofs.Table.{refused-not-accepted}
-use Rattle.deadlock.specs.Refusals.{strangeEntry, smallRoom, askedLines, checkNodeOf, checkListOf, checkRoomOf}
+use Rattle.deadlock.specs.Refusals.{strangeEntry, notAscending, smallRoom, askedLines, checkNodeOf, checkListOf, checkRoomOf}
 use Rattle.deadlock.specs.declared.claims.Found.{Found}
 use Rattle.deadlock.specs.declared.claims.Found.the-variants.{Refused as Found·Refused}
 use Rattle.deadlock.specs.declared.claims.Claim.{Claim}
@@ -121,7 +121,7 @@ module _ (n : ℕ) (rows : List ℕ) where
 
   pub list-small : (i : ℕ) (l : List ℕ) (r : Refusal) → checkListOf n rows i l ≡ Refused r → Small r
   unfolding checkListOf
-  list-small i l r = asked-small i (line 14 0 (strangeEntry n l) ∷ []) r (alone 14 refl, tt)
+  list-small i l r = asked-small i (line 14 0 (strangeEntry n l) ∷ line 18 0 (notAscending l) ∷ []) r (alone 14 refl, (alone 18 refl, tt))
 
   pub room-small : (i room : ℕ) (r : Refusal) → checkRoomOf n rows i room ≡ Refused r → Small r
   unfolding checkRoomOf

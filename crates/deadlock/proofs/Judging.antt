@@ -6,13 +6,11 @@ use mathlib.Core.List.{List, [], _∷_, _++_, List·Memᴰ, Memᴰ·append-right
 use mathlib.Core.List.List·Memᴰ.{List·Memᴰ·head as here, List·Memᴰ·tail as there}
 use Prim.Native.Nat.{ℕ, _+_, _≤_, _<_}
 use lib.ListN.{length, getD}
-use borrow.Author.Tests.{leb-false}
 use Rattle.lemmas.proofs.Tests.{not-both, not-true-false, true-or-false}
 use Rattle.lemmas.proofs.Cases.{at-true, at-false, both-branches}
 use Rattle.lemmas.proofs.Walks.{Left, left-next, left-passed, left-ended}
-use Rattle.lemmas.proofs.Any.{some-any}
 use Rattle.nodes.specs.declared.Node.{Node}
-use Rattle.nodes.specs.Sets.{has, setOf, noNode}
+use Rattle.nodes.specs.Sets.{has, setOf}
 use Rattle.nodes.proofs.Bit.{has-in, in-has}
 use Rattle.nodes.proofs.Gather.{list-in, in-list}
 use Rattle.waits.specs.declared.numbers.Refusal.{Refusal}
@@ -24,9 +22,10 @@ use Rattle.waits.specs.Rows.{waitsOf}
 use Rattle.waits.proofs.Table.{refused-not-accepted}
 use Rattle.deadlock.specs.declared.evidence.Judged.{Judged}
 use Rattle.deadlock.specs.declared.evidence.Judged.the-variants.{Passes, ClaimMissing, MemberSatisfied, Refused as Judged·Refused}
-use Rattle.deadlock.specs.Refusals.{strangeEntry, checkListOf}
+use Rattle.deadlock.specs.Refusals.{checkListOf}
 use Rattle.deadlock.specs.Evidence.{firstSatisfied, judgement, judged, judgedOf}
 use Rattle.deadlock.proofs.Passing.{passes-iff}
+use Rattle.deadlock.proofs.Cases.{listed-node}
 use Rattle.deadlock.proofs.Refused.{list-accepted}
 
 module _ (w : Waits) (g : ℕ) where
@@ -163,9 +162,7 @@ module _ (n : ℕ) (rows : List ℕ) (i : ℕ) (l : List ℕ) where
 
   -- Law: the member that is named is a node of the graph.
   pub member-node : (k : Node) → judgedOf n rows i l ≡ MemberSatisfied k → k .0 < n
-  unfolding strangeEntry noNode
   member-node k e =
       let (ok, said) = judged-said (MemberSatisfied k) (λ r q. true≢false (cc q)) .0 e in
       let (before, after, s, h, u) = judgement-member (waitsOf n rows) i l k .0 said .1 in
-      let known : strangeEntry n l ≡ false = list-accepted n rows i l ok .1 in
-      leb-false n (k .0) (not-true-false _ (λ t. not-both (some-any (noNode n) l (k .0) (rw s (Memᴰ·append-right before (here refl))) t) known))
+      listed-node n l (list-accepted n rows i l ok .1) (k .0) (rw s (Memᴰ·append-right before (here refl)))

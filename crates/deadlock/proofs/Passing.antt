@@ -6,13 +6,13 @@ use mathlib.Core.List.{List, [], _∷_, List·Memᴰ}
 use Prim.Native.Nat.{ℕ, _<_}
 use native.Mathlib.Omega.{arith}
 use borrow.Author.Tests.{not-true}
-use Rattle.lemmas.proofs.Tests.{not-both, not-true-false, same-test, and-intro, and-left, and-right}
+use Rattle.lemmas.proofs.Tests.{not-both, not-true-false, and-intro, and-left, and-right}
 use Rattle.lemmas.proofs.Any.{any-some, some-any}
-use Rattle.nodes.specs.Sets.{bit, In, Inside, has, minus, below, members, setOf}
+use Rattle.nodes.specs.Sets.{bit, In, Inside, has, below, members, setOf}
 use Rattle.nodes.proofs.Bit.{in-or-out, has-in, in-has}
 use Rattle.nodes.proofs.Operations.{in-below, in-minus}
 use Rattle.nodes.proofs.Inside.{empty-inside, inside-member, with-inside}
-use Rattle.nodes.proofs.Gather.{list-in, in-list, same-list}
+use Rattle.nodes.proofs.Gather.{list-in, in-list}
 use Rattle.nodes.proofs.Members.{members-in}
 use Rattle.waits.specs.Waits.{Waits, Lawful}
 use Rattle.waits.specs.Deadlocked.{Reduction, Deadlocked, Reachable, outside, passes}
@@ -44,19 +44,6 @@ module _ (w : Waits) where
     where
       holds : ℕ → Bool
       holds j = w .holds j (outside w l)
-
-  outside-same : (l m : List ℕ) → ((j : ℕ) → List·Memᴰ j l ↔ List·Memᴰ j m) → outside w m ≡ outside w l
-  unfolding outside
-  outside-same l m f = ap (λ (x : ℕ). minus (below (w .nodes)) x) (sym (same-list l m f))
-
-  -- Theorem: order and repeats don't matter.
-  pub passes-same : (i : ℕ) (l m : List ℕ) → ((j : ℕ) → List·Memᴰ j l ↔ List·Memᴰ j m) → passes w i l ≡ passes w i m
-  passes-same i l m f = same-test _ _ (carried l m f) (carried m l (λ j. (f j .1, f j .0)))
-    where
-      carried : (l m : List ℕ) → ((j : ℕ) → List·Memᴰ j l ↔ List·Memᴰ j m) → passes w i l ≡ true → passes w i m ≡ true
-      carried l m f e =
-          let p = passes-iff i l .0 e in
-          passes-iff i m .1 (f i .0 (p .0), λ j k. ap (w .holds j) (outside-same l m f) ∙ p .1 j (f j .1 k))
 
 module _ (w : Waits) (law : Lawful w) where
   -- ---- a list that passes: no reduction frees a member

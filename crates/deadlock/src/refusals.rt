@@ -1,5 +1,6 @@
-// When a question about a graph is refused: the graph's numbers, then 9, 14 and 15.
+// When a question about a graph is refused: the graph's numbers, then 9, then 14 and 18 or 15.
 ghost use mathlib.Core.Path.{_≡_};
+ghost use Rattle.lemmas.specs.Lists.{ascending};
 ghost use Rattle.deadlock.specs.Refusals.{strangeEntry, checkNodeOf, checkListOf, checkRoomOf};
 use nodes::Node;
 use waits::Checked;
@@ -41,7 +42,21 @@ fn strange_entry(nodes: usize, list: &[u8]) -> bool
     false
 }
 
-// A question about a list for node i: the graph, 9, then 14.
+// Whether each entry of a list is below the next; number 18 if not.
+fn ascends(list: &[u8]) -> bool
+    ensures { λ r. ⌜ r ≡ ascending (now (list .entry)) ⌝ }
+{
+    let mut at: usize = 1;
+    while at < list.len() {
+        if list[at] <= list[at - 1] {
+            return false;
+        }
+        at += 1;
+    }
+    true
+}
+
+// A question about a list for node i: the graph, 9, 14, then 18.
 pub fn check_list(nodes: usize, rows: &[u64], i: Node, list: &[u8]) -> Checked
     ensures { λ r. ⌜ r ≡ checkListOf nodes (now (rows .entry)) (i .0) (now (list .entry)) ⌝ }
 {
@@ -51,6 +66,9 @@ pub fn check_list(nodes: usize, rows: &[u64], i: Node, list: &[u8]) -> Checked
     }
     if strange_entry(nodes, list) {
         return refused(14, Node(0));
+    }
+    if !ascends(list) {
+        return refused(18, Node(0));
     }
     Checked::Accepted
 }

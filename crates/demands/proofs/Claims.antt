@@ -25,9 +25,10 @@ use Rattle.deadlock.specs.Claims.{ClaimSays}
 use Rattle.deadlock.specs.Ring.{LeadsTo, ReportSays}
 use Rattle.deadlock.proofs.Passing.{in-outside, passes-iff}
 use Rattle.deadlock.proofs.Judging.{judgement-missing, judgement-passes, judgement-member}
+use Rattle.deadlock.proofs.Offered.{written-accepted}
 use Rattle.deadlock.proofs.Answers.{to-ring}
 use Rattle.demands.specs.Demands.{Demand2}
-use Rattle.demands.proofs.Offered.{answered, list-same, some-list}
+use Rattle.demands.proofs.Offered.{answered, set-listed, list-same, first-lowest, some-list}
 
 module _ (n : ℕ) (rows : List ℕ) (i : ℕ) where
   -- ---- the published rules
@@ -86,6 +87,9 @@ demand-2 n rows i = record {
   those-outside = in-outside (waitsOf n rows);
   claim-missing = λ l ok. Iff·trans (answered n rows i l ok) (judgement-missing (waitsOf n rows) i l);
   member-satisfied = λ l ok k. Iff·trans (answered n rows i l ok) (judgement-member (waitsOf n rows) i l k);
-  alike = list-same n rows i;
+  as-set = set-listed n rows i;
+  one-list = list-same n rows i;
+  lowest = first-lowest n rows i;
+  written-accepted = written-accepted n rows i;
   link = some-list n rows i;
 }

@@ -1,28 +1,31 @@
 -- The second demand: what is answered of a list that is offered as evidence. Assumes nothing.
-use mathlib.Core.Path.{_≡_, refl, sym, ap, _∙_}
-use mathlib.Core.Bool.{Bool, true, true≢false}
-use mathlib.Core.Logic.{_↔_}
-use mathlib.Core.List.{List, [], _∷_, List·Memᴰ}
-use Prim.Native.Nat.{ℕ}
-use Rattle.lemmas.proofs.Tests.{same-test}
-use Rattle.lemmas.proofs.Any.{any-some, some-any}
+use mathlib.Core.Path.{_≡_, refl, sym, subst, _∙_}
+use mathlib.Core.Bool.{true, true≢false}
+use mathlib.Core.Logic.{⊎-elim, _↔_}
+use mathlib.Core.List.{List, _∷_, List·Memᴰ, List·Memᴰ·append-cases}
+use mathlib.Core.List.List·Memᴰ.{List·Memᴰ·head as here, List·Memᴰ·tail as there}
+use Prim.Native.Nat.{ℕ, _≤_, _<_}
+use native.Mathlib.Omega.{arith}
+use Rattle.lemmas.specs.Lists.{Ascending}
+use Rattle.lemmas.proofs.Tests.{not-both}
+use Rattle.lemmas.proofs.Ascending.{ascending-test, ascending-end, ascending-unique}
 use Rattle.nodes.specs.declared.Node.{Node}
-use Rattle.nodes.specs.Sets.{noNode, members}
-use Rattle.waits.specs.declared.numbers.Refusal.{Refusal}
+use Rattle.nodes.specs.Sets.{members, setOf}
+use Rattle.nodes.proofs.Members.{members-ascending, members-list}
 use Rattle.waits.specs.declared.numbers.Checked.the-variants.{Accepted}
-use Rattle.waits.specs.Deadlocked.{Deadlocked}
+use Rattle.waits.specs.Deadlocked.{Deadlocked, outside}
 use Rattle.waits.specs.Rows.{waitsOf}
-use Rattle.waits.specs.Numbers.{line, firstSaid}
 use Rattle.waits.proofs.Lawful.{accepted-lawful}
 use Rattle.deadlock.specs.declared.evidence.Judged.{Judged}
-use Rattle.deadlock.specs.declared.evidence.Judged.the-variants.{Passes, ClaimMissing, MemberSatisfied, Refused as Judged·Refused}
-use Rattle.deadlock.specs.Refusals.{strangeEntry, askedLines, checkNodeOf, checkListOf}
+use Rattle.deadlock.specs.declared.evidence.Judged.the-variants.{Passes, MemberSatisfied}
+use Rattle.deadlock.specs.Refusals.{checkNodeOf, checkListOf}
 use Rattle.deadlock.specs.Evidence.{judgement, judgedOf}
 use Rattle.deadlock.specs.Sweeps.{knot}
-use Rattle.deadlock.proofs.Refused.{node-accepted}
-use Rattle.deadlock.proofs.Passing.{passes-same, passes-deadlocked}
-use Rattle.deadlock.proofs.Judging.{judgement-missing, judgement-passes, judged-as, judged-refusal, judged-said}
-use Rattle.deadlock.proofs.Offered.{evidence-passes}
+use Rattle.deadlock.proofs.Cases.{listed-node}
+use Rattle.deadlock.proofs.Refused.{node-accepted, list-accepted, list-fine}
+use Rattle.deadlock.proofs.Passing.{passes-deadlocked}
+use Rattle.deadlock.proofs.Judging.{judgement-passes, judgement-member, judged-as, judged-said}
+use Rattle.deadlock.proofs.Offered.{entries-known, evidence-passes}
 use Rattle.deadlock.proofs.Answers.{asked-evidence}
 
 module _ (n : ℕ) (rows : List ℕ) (i : ℕ) where
@@ -30,41 +33,34 @@ module _ (n : ℕ) (rows : List ℕ) (i : ℕ) where
   pub answered : (l : List ℕ) → checkListOf n rows i l ≡ Accepted → {y : Judged} → (judgedOf n rows i l ≡ y) ↔ (judgement (waitsOf n rows) i l ≡ y)
   answered l ok = (λ e. judged-as n rows i l ok ∙ e, λ e. sym (judged-as n rows i l ok) ∙ e)
 
-  -- ---- order and repeats don't matter, neither for number 14 nor for what is said, but for the member that is named
-  abbrev Alike : List ℕ → List ℕ → Type 0
-  Alike l m = (j : ℕ) → List·Memᴰ j l ↔ List·Memᴰ j m
+  -- ---- it is a set
+  tidy : (l : List ℕ) → checkListOf n rows i l ≡ Accepted → Ascending l
+  tidy l ok = list-accepted n rows i l ok .2
 
-  turned : (l m : List ℕ) → Alike l m → Alike m l
-  turned l m f j = (f j .1, f j .0)
+  pub set-listed : checkNodeOf n rows i ≡ Accepted → (l : List ℕ)
+      → (checkListOf n rows i l ≡ Accepted) ↔ (((j : ℕ) → List·Memᴰ j l → j < n) × (members (setOf l) ≡ l))
+  set-listed asked l = (
+    λ ok. (listed-node n l (list-accepted n rows i l ok .1), members-list l (tidy l ok)),
+    λ p. list-fine n rows i l asked (entries-known n l (p .0)) (ascending-test l (subst Ascending (p .1) (members-ascending (setOf l)))),
+  )
 
-  strange-same : (l m : List ℕ) → Alike l m → strangeEntry n l ≡ strangeEntry n m
-  unfolding strangeEntry
-  strange-same l m f = same-test _ _ (carried l m f) (carried m l (turned l m f))
+  pub list-same : (l m : List ℕ) → checkListOf n rows i l ≡ Accepted → checkListOf n rows i m ≡ Accepted → ((j : ℕ) → List·Memᴰ j l ↔ List·Memᴰ j m) → l ≡ m
+  list-same l m ok fine = ascending-unique l m (tidy l ok) (tidy m fine)
+
+  -- so the first member whose condition holds is the lowest
+  pub first-lowest : (l : List ℕ) → checkListOf n rows i l ≡ Accepted → (k : Node) → judgedOf n rows i l ≡ MemberSatisfied k
+      → (j : ℕ) → List·Memᴰ j l → waitsOf n rows .holds j (outside (waitsOf n rows) l) ≡ true → k .0 ≤ j
+  first-lowest l ok k e j m h =
+      let (before, after, parts, held, none) = judgement-member (waitsOf n rows) i l k .0 (answered l ok .0 e) .1 in
+      let up = ascending-end before (k .0 ∷ after) (rw parts at (tidy l ok)) in
+      ⊎-elim
+      (λ (t : List·Memᴰ j before). absurd (not-both h (none j t)))
+      (λ (t : List·Memᴰ j (k .0 ∷ after)). at-least (k .0) after (up .0) t)
+      (List·Memᴰ·append-cases before (rw parts at m))
     where
-      carried : (l m : List ℕ) → Alike l m → strangeEntry n l ≡ true → strangeEntry n m ≡ true
-      carried l m f e = let s = any-some (noNode n) l e in some-any (noNode n) m (s .0) (f (s .0) .0 (s .1)) (s .2)
-
-  check-same : (l m : List ℕ) → Alike l m → checkListOf n rows i m ≡ checkListOf n rows i l
-  unfolding checkListOf
-  check-same l m f = ap (λ (x : Bool). firstSaid (askedLines n rows i (line 14 0 x ∷ []))) (sym (strange-same l m f))
-
-  module _ (l m : List ℕ) (f : Alike l m) where
-    said-carried : (x : Judged) → ((r : Refusal) → x ≡ Judged·Refused r → ⊥) → (judgement (waitsOf n rows) i l ≡ x → judgement (waitsOf n rows) i m ≡ x)
-        → judgedOf n rows i l ≡ x → judgedOf n rows i m ≡ x
-    said-carried x plain g e = let p = judged-said n rows i l x plain .0 e in judged-said n rows i m x plain .1 (check-same l m f ∙ p .0, g (p .1))
-
-    answer-carried : (x : Judged) → ((k : Node) → x ≡ MemberSatisfied k → ⊥) → judgedOf n rows i l ≡ x → judgedOf n rows i m ≡ x
-    answer-carried Passes nameless =
-        said-carried Passes (λ r q. true≢false (cc q))
-        (λ e. judgement-passes (waitsOf n rows) i m .1 (sym (passes-same (waitsOf n rows) i l m f) ∙ judgement-passes (waitsOf n rows) i l .0 e))
-    answer-carried ClaimMissing nameless =
-        said-carried ClaimMissing (λ r q. true≢false (cc q))
-        (λ e. judgement-missing (waitsOf n rows) i m .1 (λ k. judgement-missing (waitsOf n rows) i l .0 e (f i .1 k)))
-    answer-carried (MemberSatisfied k) nameless = absurd (nameless k refl)
-    answer-carried (Judged·Refused r) nameless = λ e. judged-refusal n rows i m r .1 (check-same l m f ∙ judged-refusal n rows i l r .0 e)
-
-  pub list-same : (l m : List ℕ) → Alike l m → (x : Judged) → ((k : Node) → x ≡ MemberSatisfied k → ⊥) → (judgedOf n rows i l ≡ x) ↔ (judgedOf n rows i m ≡ x)
-  list-same l m f x nameless = (answer-carried l m f x nameless, answer-carried m l (turned l m f) x nameless)
+      at-least : (x : ℕ) (r : List ℕ) → ((b : ℕ) → List·Memᴰ b r → x < b) → List·Memᴰ j (x ∷ r) → x ≤ j
+      at-least x r above (here q) = omega arith
+      at-least x r above (there t) = let b = above j t in omega arith
 
   -- ---- a node is deadlocked exactly if some list passes for it
   module _ (ok : checkNodeOf n rows i ≡ Accepted) where

@@ -32,7 +32,7 @@ nobody-passes w i = ap (λ (b : Bool). b && not (anyOf (λ j. w .holds j (outsid
 claim-lacking : (n : ℕ) (rows : List ℕ) (i : ℕ) → checkNodeOf n rows i ≡ Accepted → judgedOf n rows i [] ≡ ClaimMissing
 unfolding strangeEntry
 claim-lacking n rows i ok =
-    sym (judged-as n rows i [] (list-fine n rows i [] ok refl)) ∙ judgement-missing (waitsOf n rows) i [] .1 (λ m. elim m [ ])
+    sym (judged-as n rows i [] (list-fine n rows i [] ok refl refl)) ∙ judgement-missing (waitsOf n rows) i [] .1 (λ m. elim m [ ])
 
 -- Theorem: all that the paper says of these mornings is so.
 pub table : Table

@@ -10,7 +10,7 @@ use Prim.Native.Nat.{ℕ, _+_, _*_, _≤_, _<_}
 use lib.ListN.{length, take, drop}
 use Rattle.nodes.specs.declared.Node.{Node}
 use Rattle.nodes.specs.declared.Set.{Set}
-use Rattle.nodes.specs.Sets.{In, Inside, meet, size}
+use Rattle.nodes.specs.Sets.{In, Inside, meet, members, size, setOf}
 use Rattle.nodes.specs.Words.{num}
 use Rattle.records.specs.declared.messages.Message.{Message}
 use Rattle.records.specs.Rounds.{lastRound, behind, ahead}
@@ -29,7 +29,6 @@ use Rattle.deadlock.specs.declared.ring.Report.{Report}
 use Rattle.deadlock.specs.declared.ring.Report.the-variants.{InRing, NotDeadlocked as Report·NotDeadlocked, Refused as Report·Refused}
 use Rattle.deadlock.specs.declared.evidence.Written.{Written}
 use Rattle.deadlock.specs.declared.evidence.Written.the-variants.{Bytes, Refused as Written·Refused}
-use Rattle.deadlock.specs.declared.evidence.Judged.{Judged}
 use Rattle.deadlock.specs.declared.evidence.Judged.the-variants.{Passes, ClaimMissing, MemberSatisfied, Refused as Judged·Refused}
 use Rattle.deadlock.specs.Refusals.{askedLines, listLines, roomLines, checkNodeOf, checkListOf}
 use Rattle.deadlock.specs.Claims.{FoundSays, ClaimSays}
@@ -98,7 +97,7 @@ module _ (n : ℕ) (rows : List ℕ) where
     pub in-ring : checkNodeOf n rows i ≡ Accepted → Deadlocked w i → (x : Report) → ReportSays n rows i x → (x ≡ InRing) ↔ LeadsTo w i i
     pub to-ring : checkNodeOf n rows i ≡ Accepted → Deadlocked w i → (j : ℕ) × LeadsTo w i j × ReportSays n rows j InRing
     -- "A list offered as evidence passes exactly when it holds the claim asked about and the nodes outside it satisfy no member's
-    -- condition."
+    -- condition": of lists that aren't refused.
     pub list : (l : List ℕ) → checkListOf n rows i l ≡ Accepted
         → (judgedOf n rows i l ≡ Passes) ↔ (List·Memᴰ i l × ((j : ℕ) → List·Memᴰ j l → w .holds j (outside w l) ≡ false))
     pub those-outside : (l : List ℕ) (k : ℕ) → In k (outside w l) ↔ ((k < n) × (List·Memᴰ k l → ⊥))
@@ -110,9 +109,17 @@ module _ (n : ℕ) (rows : List ℕ) where
         ↔ (List·Memᴰ i l
         × ((before : List ℕ) × (after : List ℕ) × (l ≡ before ++ k .0 ∷ after) × (w .holds (k .0) (outside w l) ≡ true)
         × ((j : ℕ) → List·Memᴰ j before → w .holds j (outside w l) ≡ false)))
-    -- "Whoever wrote the list, that is all that counts": order and repeats don't matter, but for which member is the first.
-    pub alike : (l m : List ℕ) → ((j : ℕ) → List·Memᴰ j l ↔ List·Memᴰ j m) → (x : Judged) → ((k : Node) → x ≡ MemberSatisfied k → ⊥)
-        → (judgedOf n rows i l ≡ x) ↔ (judgedOf n rows i m ≡ x)
+    -- "Whoever wrote the list, that is all that counts." The paper: a list that isn't refused is a set. If graph and node aren't refused,
+    -- a list isn't exactly if it names nodes alone and is the ascending list of its set's members; no other with these members is then
+    -- accepted, and the member that comes first is the lowest.
+    pub as-set : checkNodeOf n rows i ≡ Accepted → (l : List ℕ)
+        → (checkListOf n rows i l ≡ Accepted) ↔ (((j : ℕ) → List·Memᴰ j l → j < n) × (members (setOf l) ≡ l))
+    pub one-list : (l m : List ℕ) → checkListOf n rows i l ≡ Accepted → checkListOf n rows i m ≡ Accepted → ((j : ℕ) → List·Memᴰ j l ↔ List·Memᴰ j m) → l ≡ m
+    pub lowest : (l : List ℕ) → checkListOf n rows i l ≡ Accepted → (k : Node) → judgedOf n rows i l ≡ MemberSatisfied k
+        → (j : ℕ) → List·Memᴰ j l → w .holds j (outside w l) ≡ true → k .0 ≤ j
+    -- The paper: the evidence that is written is never refused, for whatever node of the graph it is offered.
+    pub written-accepted : (found left : List ℕ) (k : ℕ) → WrittenSays n rows i found left (Bytes k)
+        → (j : ℕ) → checkNodeOf n rows j ≡ Accepted → checkListOf n rows j (take k left) ≡ Accepted
     -- The paper: a node is deadlocked exactly if some list passes for it.
     pub link : checkNodeOf n rows i ≡ Accepted → Deadlocked w i ↔ ((l : List ℕ) × (judgedOf n rows i l ≡ Passes))
 

@@ -14,7 +14,7 @@ use Rattle.waits.specs.Deadlocked.{Deadlocked as Dead, Path, passes}
 use Rattle.waits.specs.Rows.{waitsOf}
 use Rattle.waits.specs.Numbers.{checkOf}
 use Rattle.waits.specs.Mornings.{firstRows, secondRows, fourthRows, fifthRows, sixthRows, ninthRows, tenthRows}
-use Rattle.deadlock.specs.declared.evidence.Judged.the-variants.{Passes, ClaimMissing, MemberSatisfied}
+use Rattle.deadlock.specs.declared.evidence.Judged.the-variants.{Passes, ClaimMissing, MemberSatisfied, Refused as Judged·Refused}
 use Rattle.deadlock.specs.declared.ring.Report.the-variants.{InRing, BehindRing, NotDeadlocked as Report·NotDeadlocked}
 use Rattle.deadlock.specs.Refusals.{checkNodeOf}
 use Rattle.deadlock.specs.Evidence.{Evidence, judgedOf}
@@ -77,10 +77,10 @@ pub record Table : Type 0 where
   pub second : Morning 10 secondRows 14 (0 ∷ 2 ∷ 3 ∷ 4 ∷ 6 ∷ 7 ∷ 8 ∷ [])
   pub second-round : FullRound 10 secondRows 0 34 Deadlocked
   pub second-evidence : Evidence (waitsOf 10 secondRows) 0 (0 ∷ 2 ∷ 3 ∷ 4 ∷ 6 ∷ 7 ∷ 8 ∷ [])
-  -- 3: there {1, 3, 4, 5, 7, 8} passes for 1; {1, 3, 5} doesn't (4 is outside). It fails at 1; from behind, at 3, which then comes first.
+  -- 3: there {1, 3, 4, 5, 7, 8} passes for 1; {1, 3, 5} doesn't (4 is outside). It fails at 1; from behind it is refused.
   pub third-passes : judgedOf 10 secondRows 0 (0 ∷ 2 ∷ 3 ∷ 4 ∷ 6 ∷ 7 ∷ []) ≡ Passes
   pub third-fails : judgedOf 10 secondRows 0 (0 ∷ 2 ∷ 4 ∷ []) ≡ MemberSatisfied (record { 0 = 0 })
-  pub third-turned : judgedOf 10 secondRows 0 (4 ∷ 2 ∷ 0 ∷ []) ≡ MemberSatisfied (record { 0 = 2 })
+  pub third-turned : judgedOf 10 secondRows 0 (4 ∷ 2 ∷ 0 ∷ []) ≡ Judged·Refused (record { number = 18; row = record { 0 = 0 } })
   -- 4: both deadlocked, 4 messages, from 1 or from 2. The evidence for either is both.
   pub fourth : Morning 2 fourthRows 2 (0 ∷ 1 ∷ [])
   pub fourth-round : FullRound 2 fourthRows 0 4 Deadlocked × FullRound 2 fourthRows 1 4 Deadlocked

@@ -1,8 +1,9 @@
 -- Lists and the numbers below one: a test of some of them, those that meet one, a sum, what it means to ascend and to have
 -- nothing twice. Assumes nothing.
-use mathlib.Core.Bool.{Bool, false, cond, _||_}
+use mathlib.Core.Bool.{Bool, true, false, cond, _&&_, _||_}
 use mathlib.Core.List.{List, [], _∷_, List·Memᴰ}
 use Prim.Native.Nat.{ℕ, zero, suc, _+_, _<_}
+use lib.Dec.{ltb}
 
 -- some number of the list meets the test
 abbrev pub anyOf : (ℕ → Bool) → List ℕ → Bool
@@ -28,6 +29,12 @@ total f (a ∷ l) = f a + total f l
 abbrev pub Ascending : List ℕ → Type 0
 Ascending [] = Unit {0}
 Ascending (a ∷ l) = ((b : ℕ) → List·Memᴰ b l → a < b) × Ascending l
+
+-- the same as a test: each is below the next
+abbrev pub ascending : List ℕ → Bool
+ascending [] = true
+ascending (a ∷ []) = true
+ascending (a ∷ b ∷ l) = ltb a b && ascending (b ∷ l)
 
 -- nothing stands in the list twice
 abbrev pub Once : {A : Type 0} → List A → Type 0

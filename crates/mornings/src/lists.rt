@@ -26,21 +26,26 @@ pub fn judged(nodes: usize, rows: &[u64], node: usize, list: &[u8]) {
     text(b"\n");
 }
 
-fn offered(node: usize, list: &[u8]) {
+// In the second morning.
+pub fn offered(node: usize, list: &[u8]) {
     judged(10, &second(), node, list);
 }
 
-// Morning 3, in any order and with repeats too; and lists that lack the claim, or have one that can move. Some fail in more than
-// one way, so that it is seen which is said.
+// Morning 3; its list in other orders and with repeats, which is refused; and lists that lack the claim, or have one that can
+// move. Some fail in more than one way, so that it is seen which is said.
 pub fn third() {
     offered(0, &[0u8, 2, 3, 4, 6, 7]);
     offered(0, &[7u8, 0, 6, 2, 4, 3, 0, 7]);
+    offered(0, &[0u8, 2, 3, 4, 7, 6]);
+    offered(0, &[0u8, 2, 3, 4, 6, 7, 7]);
+    offered(0, &[0u8, 0, 2, 3, 4, 6, 7]);
     offered(0, &[0u8, 2, 4]);
     offered(0, &[4u8, 2, 0]);
-    offered(0, &[4u8, 0, 2, 0]);
+    offered(8, &[4u8, 2, 0]);
     offered(8, &[0u8, 2, 4]);
     offered(8, &[0u8, 2, 3, 4, 6, 7]);
     offered(0, &[0u8, 2, 3, 4, 6, 7, 9]);
+    offered(9, &[9u8]);
 }
 
 // Morning 12: the empty list, for each node.

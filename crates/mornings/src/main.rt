@@ -21,7 +21,8 @@ fn main() {
     lists::third();
     lists::twelfth();
     say::text(b"\nQuestions\n");
-    questions::refused();
+    questions::nodes();
+    questions::lists();
     questions::rooms();
     questions::bad_row();
     say::text(b"\nBad graphs\n");

@@ -4,6 +4,7 @@ use crate::graphs::put;
 use crate::lines::about;
 use crate::lines::bytes;
 use crate::lists::judged;
+use crate::lists::offered;
 use crate::mornings::second;
 use crate::say::number;
 use crate::say::refusal;
@@ -26,16 +27,25 @@ fn written(nodes: usize, rows: &[u64], node: usize, room: &mut [u8]) {
     text(b"\n");
 }
 
-// Numbers 9, 14 and 15, each after those that come before it.
-pub fn refused() {
+// Number 9, after the graph's.
+pub fn nodes() {
     let rows = second();
     asked(10, &rows, 10);
     asked(10, &rows, 18_446_744_073_709_551_615);
     asked(9, &rows, 10);
-    judged(10, &rows, 0, &[0u8, 2, 3, 4, 6, 7, 255]);
-    judged(10, &rows, 1, &[10u8]);
-    judged(10, &rows, 10, &[10u8]);
+}
+
+// Number 14, after the graph's and 9; each of them before 18, where the list is out of order as well.
+pub fn lists() {
+    let rows = second();
+    offered(0, &[0u8, 2, 3, 4, 6, 7, 255]);
+    offered(1, &[10u8]);
+    offered(0, &[2u8, 0, 10]);
+    offered(0, &[10u8, 10]);
+    offered(10, &[10u8]);
+    offered(10, &[2u8, 0]);
     judged(9, &rows, 10, &[10u8]);
+    judged(9, &rows, 10, &[2u8, 0]);
 }
 
 // Number 15 is by the node count, and bytes that aren't written stay.
@@ -60,5 +70,6 @@ pub fn bad_row() {
     put(&mut rows, 4, [3, 0, 0, 0, 0, 0]);
     asked(10, &rows, 0);
     judged(10, &rows, 0, &[0u8]);
+    judged(10, &rows, 0, &[1u8, 0]);
     written(10, &rows, 0, &mut room);
 }

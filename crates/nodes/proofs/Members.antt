@@ -14,9 +14,10 @@ use lib.Arith.{half-le, lt-one}
 use lib.Pow.{pow-pos, shr-lt, mod-pow-add}
 use lib.Bits.{block-half, block-odd}
 use Rattle.lemmas.specs.Lists.{Ascending, Once}
-use Rattle.lemmas.proofs.Ascending.{ascending-snoc, ascending-once}
-use Rattle.nodes.specs.Sets.{bit, In, has, only, membersFrom, members}
+use Rattle.lemmas.proofs.Ascending.{ascending-snoc, ascending-unique, ascending-once}
+use Rattle.nodes.specs.Sets.{bit, In, has, only, membersFrom, members, setOf}
 use Rattle.nodes.proofs.Bit.{bit-le, in-or-out, in-lt, has-in, in-has, pow-gt, empty-same}
+use Rattle.nodes.proofs.Gather.{list-in, in-list}
 
 -- ---- the members from k on, however large the bound of the recursion
 more : (f k s : ℕ) → s ≤ f → membersFrom (suc f) k s ≡ membersFrom f k s
@@ -127,6 +128,12 @@ members-ascending s = rw (members-all s s (pow-gt s)) at (below-ascending s s)
 
 pub members-once : (s : ℕ) → Once (members s)
 members-once s = ascending-once (members s) (members-ascending s)
+
+-- Law: an ascending list is the list of its set's members.
+pub members-list : (l : List ℕ) → Ascending l → members (setOf l) ≡ l
+members-list l up =
+    ascending-unique (members (setOf l)) l (members-ascending (setOf l)) up
+    (λ k. (λ m. in-list l k (members-in (setOf l) k .0 m), λ m. members-in (setOf l) k .1 (list-in l k m)))
 
 -- a set is empty, or has a member
 pub none-or-some : (s : ℕ) → (s ≡ 0) ⊎ ((k : ℕ) × In k s)

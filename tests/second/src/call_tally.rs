@@ -9,7 +9,8 @@ use crate::graph::{count_is_bad, Rows, MOST_EDGES};
 use crate::lent::LentBench;
 use crate::library::LibraryCall::{self, *};
 use crate::library::SAID;
-use crate::questions::named;
+use crate::list_words::{disorder, if_in_order, strangeness};
+use crate::questions::{ascends, named};
 use crate::reduction::{everyone, leads_back, satisfied};
 use std::collections::BTreeMap;
 use std::fmt;
@@ -28,17 +29,23 @@ const JUDGES_OF_ROWS: [&str; 8] = [
 
 /// An opening never ends deadlocked: a node that isn't free has waits.
 #[rustfmt::skip]
-const EXPECTED: [(&str, &str); 25] = [
+const EXPECTED: [(&str, &str); 28] = [
     ("check:", "accepted, refused 1, refused 8"),
     ("deadlocked:", "no, yes, refused 1, refused 8, refused 9"),
     ("all_deadlocked:", "written, refused 1, refused 8"),
     ("write_evidence:", "none, some, refused 1, refused 8, refused 9, refused 15"),
     ("room for evidence:", "too small by one, too small by more, exact, larger by one, larger by more, of 0"),
     ("check_evidence:", "passes, lacks the claim, lacks the claim with a member satisfied, fails at a member, \
-        refused 1, refused 8, refused 9, refused 14"),
-    ("list of evidence:", "of 0, of 1, of 2 to 64, of 65 to 199, of 200 and more, of more than 64 and passing"),
-    ("member named:", "active, the claim, at the first place, at a later place, past 64 places, repeated, \
-        not the last satisfied, not the lowest satisfied"),
+        refused 1, refused 8, refused 9, refused 14, refused 18"),
+    ("list of evidence:", "of 0, of 1, of 2 to 64, of 65 to 199, of 200 and more, of all nodes and not refused, \
+        of 64 nodes and not refused"),
+    ("list out of order refused:", "1, 2, 3, 4, 5, 6, 7, 8, 9, 14, 18"),
+    ("list refused 14:", "ascending, ascending to the node count, ascending and of more than 64, \
+        wrong order before the strange entry, wrong order from the strange entry on"),
+    ("list refused 18:", "equal neighbours only, a descending pair only, a repeat apart, only the first pair, \
+        only the last pair, only a pair between, descending throughout, only past 64 places, of more than 64, \
+        of 200 and more, would pass in order, would lack the claim in order, would fail at a member in order"),
+    ("member named:", "active, the claim, at the first place, at a later place, not the last satisfied"),
     ("ring:", "not deadlocked, in, behind, behind with a path back, refused 1, refused 8, refused 9"),
     ("open:", "120, 122, refused 1, refused 9, refused 10, refused 13"),
     ("open 13 for:", "IN, a record's round, a record's call, a record's freed, a record's set"),
@@ -64,6 +71,7 @@ const EXPECTED: [(&str, &str); 25] = [
 ];
 
 const LIST: &str = "message list";
+const OFFERED: &str = "list of evidence";
 const MEMBER: &str = "member named";
 
 pub struct CallTally {
@@ -116,7 +124,8 @@ impl CallTally {
             }
             CheckEvidence(rows, node, list) => {
                 self.graph(rows);
-                self.list(list, result);
+                self.list(rows, list, result);
+                self.refused_list(rows, *node as usize, list, result);
                 self.failing_list(rows, *node as usize, list, result);
             }
             Open(alone, _) => {
@@ -176,10 +185,31 @@ impl CallTally {
         self.add("room for evidence", ending);
     }
 
-    fn list(&mut self, list: &[u8], result: u64) {
-        self.add("list of evidence", length(list.len()));
-        if list.len() > 64 && result == SAID + 1 {
-            self.add("list of evidence", "of more than 64 and passing");
+    fn list(&mut self, rows: &Rows, list: &[u8], result: u64) {
+        let of_all = result > SAID && list.len() as u64 == rows.nodes;
+        self.add_found(&[
+            (true, OFFERED, length(list.len())),
+            (of_all, OFFERED, "of all nodes and not refused"),
+            (
+                of_all && list.len() == 64,
+                OFFERED,
+                "of 64 nodes and not refused",
+            ),
+        ]);
+        // Out of order it is always refused, but not always for that.
+        if !ascends(list) {
+            self.add("list out of order refused", &(result % 256).to_string());
+        }
+    }
+
+    fn refused_list(&mut self, rows: &Rows, node: usize, list: &[u8], result: u64) {
+        let endings = match (result, rows.graph()) {
+            (14, Ok(graph)) => strangeness(&graph, list),
+            (18, Ok(graph)) => [disorder(list), vec![if_in_order(&graph, node, list)]].concat(),
+            _ => return,
+        };
+        for ending in endings {
+            self.add(&format!("list refused {result}"), ending);
         }
     }
 
@@ -188,26 +218,19 @@ impl CallTally {
         let (Some(said), Ok(graph)) = (result.checked_sub(SAID), rows.graph()) else {
             return;
         };
-        let list = named(list);
-        let satisfied = satisfied(&graph, &list);
-        let (first, last) = (satisfied.first(), satisfied.last());
-        let lowest = satisfied.iter().min();
-        match (said, first) {
+        let satisfied = satisfied(&graph, &named(list));
+        match (said, satisfied.first()) {
             (2, Some(_)) => self.add("check_evidence", "lacks the claim with a member satisfied"),
-            (256.., Some(member)) => self.add_found(&[
-                (graph.nodes[*member].is_active(), MEMBER, "active"),
-                (*member == node, MEMBER, "the claim"),
-                (*member == list[0], MEMBER, "at the first place"),
-                (*member != list[0], MEMBER, "at a later place"),
-                (
-                    list.iter().take(64).all(|at| at != member),
-                    MEMBER,
-                    "past 64 places",
-                ),
-                (satisfied[1..].contains(member), MEMBER, "repeated"),
-                (first != last, MEMBER, "not the last satisfied"),
-                (first != lowest, MEMBER, "not the lowest satisfied"),
-            ]),
+            (256.., Some(member)) => {
+                let at_first = usize::from(list[0]) == *member;
+                self.add_found(&[
+                    (graph.nodes[*member].is_active(), MEMBER, "active"),
+                    (*member == node, MEMBER, "the claim"),
+                    (at_first, MEMBER, "at the first place"),
+                    (!at_first, MEMBER, "at a later place"),
+                    (satisfied.len() > 1, MEMBER, "not the last satisfied"),
+                ]);
+            }
             _ => {}
         }
     }

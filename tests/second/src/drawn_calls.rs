@@ -2,7 +2,7 @@
 
 use crate::drawn_alone;
 use crate::drawn_benches;
-use crate::drawn_questions::{list, node, room, rows};
+use crate::drawn_questions::{list, node, room, rows, rows_for_a_list};
 use crate::library::LibraryCall::{self, *};
 use crate::prng::Prng;
 
@@ -58,7 +58,7 @@ fn write_evidence(rng: &mut Prng) -> LibraryCall {
 }
 
 fn check_evidence(rng: &mut Prng) -> LibraryCall {
-    let rows = rows(rng);
+    let rows = rows_for_a_list(rng);
     let node = node(rng, &rows);
     let list = list(rng, &rows, node);
     CheckEvidence(rows, node, list)

@@ -6,6 +6,10 @@ use crate::prng::Prng;
 
 pub fn accepted(rng: &mut Prng) -> Rows {
     let nodes = *rng.pick(&[3, 4, 5, 6, 8, 12, 24, 64]);
+    of(rng, nodes)
+}
+
+pub fn of(rng: &mut Prng, nodes: usize) -> Rows {
     let mut names: Vec<usize> = (0..nodes).collect();
     rng.shuffle(&mut names);
     let (stuck, free) = names.split_at(rng.between(2, nodes - 1));

@@ -21,6 +21,7 @@ pub mod laws;
 pub mod lent;
 pub mod library;
 pub mod line;
+pub mod list_words;
 pub mod message;
 pub mod moments;
 pub mod morning_graphs;

@@ -54,18 +54,22 @@ fn mornings() -> Vec<String> {
     lines
 }
 
-/// Some fail in more than one way, so that it is seen which is said.
+/// Some are wrong in more than one way, so that it is seen which is said.
 fn lists() -> Vec<String> {
     let rows = morning_2();
     let mut lines = vec![
         about_list(&rows, 0, &[0, 2, 3, 4, 6, 7]),
         about_list(&rows, 0, &[7, 0, 6, 2, 4, 3, 0, 7]),
+        about_list(&rows, 0, &[0, 2, 3, 4, 7, 6]),
+        about_list(&rows, 0, &[0, 2, 3, 4, 6, 7, 7]),
+        about_list(&rows, 0, &[0, 0, 2, 3, 4, 6, 7]),
         about_list(&rows, 0, &[0, 2, 4]),
         about_list(&rows, 0, &[4, 2, 0]),
-        about_list(&rows, 0, &[4, 0, 2, 0]),
+        about_list(&rows, 8, &[4, 2, 0]),
         about_list(&rows, 8, &[0, 2, 4]),
         about_list(&rows, 8, &[0, 2, 3, 4, 6, 7]),
         about_list(&rows, 0, &[0, 2, 3, 4, 6, 7, 9]),
+        about_list(&rows, 9, &[9]),
     ];
     lines.extend((0..rows.nodes).map(|node| about_list(&rows, node, &[])));
     lines
@@ -85,8 +89,12 @@ fn hard_questions() -> Vec<String> {
         about_node(&row_over, 10),
         about_list(&good, 0, &[0, 2, 3, 4, 6, 7, 255]),
         about_list(&good, 1, &[10]),
+        about_list(&good, 0, &[2, 0, 10]),
+        about_list(&good, 0, &[10, 10]),
         about_list(&good, 10, &[10]),
+        about_list(&good, 10, &[2, 0]),
         about_list(&row_over, 10, &[10]),
+        about_list(&row_over, 10, &[2, 0]),
         about_room(&good, 0, 9),
         about_room(&good, 1, 9),
         about_room(&good, 10, 9),
@@ -96,6 +104,7 @@ fn hard_questions() -> Vec<String> {
         about_room(&good, 0, 12),
         about_node(&bad_kind, 0),
         about_list(&bad_kind, 0, &[0]),
+        about_list(&bad_kind, 0, &[1, 0]),
         about_room(&bad_kind, 0, 12),
     ]
 }

@@ -1,6 +1,6 @@
 //! The calls on a whole graph as a clerk makes them: numbers in, an answer or a refusal out.
 
-use crate::graph::{Graph, Refusal, Rows};
+use crate::graph::{Graph, NodeSet, Refusal, Rows};
 use crate::reduction::{self, Judged, Ring};
 
 /// Graph first, then 9: the beginning of every question.
@@ -23,18 +23,27 @@ pub fn ring(rows: &Rows, node: u64) -> Result<Ring, Refusal> {
 }
 
 /// What the bytes of a list name, whether such nodes exist or not.
-pub fn named(list: &[u8]) -> Vec<usize> {
+pub fn named(list: &[u8]) -> NodeSet {
     list.iter().map(|entry| usize::from(*entry)).collect()
 }
 
-/// An entry that names no node is refused wherever it stands, also behind a member at which the list fails.
+/// Whether every entry is larger than the one before it.
+pub fn ascends(list: &[u8]) -> bool {
+    list.windows(2).all(|pair| pair[0] < pair[1])
+}
+
+/// The whole list is looked through for entries that name no node, then for its order, and only then are its members
+/// judged: it is no matter which fault stands first in it.
 pub fn judge_list(rows: &Rows, node: u64, list: &[u8]) -> Result<Judged, Refusal> {
     let (graph, node) = graph_and_node(rows, node)?;
-    let list = named(list);
-    if list.iter().any(|entry| *entry >= graph.len()) {
+    let members = named(list);
+    if members.iter().any(|member| *member >= graph.len()) {
         return Err(Refusal::plain(14));
     }
-    Ok(reduction::judge_list(&graph, node, &list))
+    if !ascends(list) {
+        return Err(Refusal::plain(18));
+    }
+    Ok(reduction::judge_list(&graph, node, &members))
 }
 
 /// Writes the evidence at the front of the room; every other byte stays as it was.

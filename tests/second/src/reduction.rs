@@ -80,28 +80,27 @@ pub fn ring(graph: &Graph, node: usize) -> Ring {
     }
 }
 
-/// The members whose condition the nodes outside the list satisfy, in its order and as often as it names them.
-pub fn satisfied(graph: &Graph, list: &[usize]) -> Vec<usize> {
-    let inside: NodeSet = list.iter().copied().collect();
-    let outside = &everyone(graph) - &inside;
+/// The members whose condition the nodes outside satisfy.
+pub fn satisfied(graph: &Graph, members: &NodeSet) -> NodeSet {
+    let outside = &everyone(graph) - members;
     let holds = |member: &usize| graph.nodes[*member].condition.holds(&outside);
-    list.iter().copied().filter(holds).collect()
+    members.iter().copied().filter(holds).collect()
 }
 
 pub enum Judged {
     Passes,
     ClaimMissing,
-    /// The first member, in the list's order, whose condition the nodes outside satisfy.
+    /// The first member whose condition the nodes outside satisfy: the lowest, as lists ascend.
     Satisfied(usize),
 }
 
-/// Whether the list is evidence for the node: it names the node, and the nodes outside it satisfy no member.
-/// Without the node it is none whatever its members wait for, so that is said first.
-pub fn judge_list(graph: &Graph, node: usize, list: &[usize]) -> Judged {
-    if !list.contains(&node) {
+/// Whether a list of these members is evidence for the node: it names the node, and the nodes outside it satisfy no
+/// member. Without the node it is none whatever its members wait for, so that is said first.
+pub fn judge_list(graph: &Graph, node: usize, members: &NodeSet) -> Judged {
+    if !members.contains(&node) {
         return Judged::ClaimMissing;
     }
-    match satisfied(graph, list).first() {
+    match satisfied(graph, members).first() {
         Some(member) => Judged::Satisfied(*member),
         None => Judged::Passes,
     }
