@@ -63,6 +63,7 @@ module _ (l : List ℕ) (at : ℕ) (left : AscendingLeft l at) where
       at-most-one (x ∷ []) k = refl
       at-most-one (x ∷ y ∷ m) k = absurd (omega arith)
 
+-- ---- how they are put together, and what they are determined by
 -- one number more at the end, above all the others
 pub ascending-snoc : (l : List ℕ) (k : ℕ) → ((b : ℕ) → List·Memᴰ b l → b < k) → Ascending l → Ascending (l ++ k ∷ [])
 ascending-snoc [] k h a = (λ b m. absurd (elim m [ ]), tt)
