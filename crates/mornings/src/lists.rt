@@ -31,8 +31,8 @@ pub fn offered(node: usize, list: &[u8]) {
     judged(10, &second(), node, list);
 }
 
-// Morning 3; its list in other orders and with repeats, which is refused; and lists that lack the claim, or have one that can
-// move. Some fail in more than one way, so that it is seen which is said.
+// Morning 3; its lists in other orders and with repeats, which are refused; and lists that lack the claim, or have a member
+// that can move. Some fail in more than one way, so that it is seen which is said.
 pub fn third() {
     offered(0, &[0u8, 2, 3, 4, 6, 7]);
     offered(0, &[7u8, 0, 6, 2, 4, 3, 0, 7]);
