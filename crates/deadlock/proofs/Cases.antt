@@ -1,6 +1,7 @@
 -- What the callees said, over plain variables: facts that several functions of this crate cite. Assumes nothing.
 use mathlib.Core.Path.{_≡_, refl, sym, ap, ap₂, _∙_}
 use mathlib.Core.Bool.{Bool, true, false}
+use mathlib.Core.Logic.{_↔_}
 use mathlib.Core.List.{List, [], List·Memᴰ}
 use Prim.Native.Nat.{ℕ, _+_, _≤_, _<_}
 use native.Mathlib.Numerals.{add-one}
@@ -8,8 +9,7 @@ use native.Mathlib.Omega.{arith}
 use lib.ListN.{length, getD, take}
 use lib.Seq.{take-suc}
 use borrow.Author.Tests.{leb-false, le-leb, lt-leb}
-use Rattle.lemmas.proofs.Tests.{not-both, not-true-false}
-use Rattle.lemmas.proofs.Any.{some-any, none-at}
+use Rattle.lemmas.proofs.Any.{any-none, none-at}
 use Rattle.nodes.specs.Sets.{has, meet, minus, with, below, setOf, noNode}
 use Rattle.nodes.proofs.Gather.{list-snoc}
 use Rattle.waits.specs.declared.rows.Row.{Row}
@@ -41,9 +41,12 @@ pub entry-node : (n : ℕ) (l : List ℕ) (at : ℕ) → at < length l → stran
 unfolding strangeEntry noNode
 entry-node n l at h e = leb-false n (getD l at 0) (none-at (noNode n) l at h e)
 
-pub listed-node : (n : ℕ) (l : List ℕ) → strangeEntry n l ≡ false → (j : ℕ) → List·Memᴰ j l → j < n
+pub entries-nodes : (n : ℕ) (l : List ℕ) → (strangeEntry n l ≡ false) ↔ ((j : ℕ) → List·Memᴰ j l → j < n)
 unfolding strangeEntry noNode
-listed-node n l e j m = leb-false n j (not-true-false _ (λ t. not-both (some-any (noNode n) l j m t) e))
+entries-nodes n l = (
+  λ e j m. leb-false n j (any-none (noNode n) l .0 e j m),
+  λ f. any-none (noNode n) l .1 (λ j m. lt-leb n j (f j m)),
+)
 
 pub entry-strange : (n j : ℕ) {k : ℕ} → k ≡ j → n ≤ k → noNode n j ≡ true
 unfolding noNode

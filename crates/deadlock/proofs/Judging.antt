@@ -25,7 +25,7 @@ use Rattle.deadlock.specs.declared.evidence.Judged.the-variants.{Passes,
 use Rattle.deadlock.specs.Refusals.{checkListOf}
 use Rattle.deadlock.specs.Evidence.{firstSatisfied, judgement, judged, judgedOf}
 use Rattle.deadlock.proofs.Passing.{passes-iff}
-use Rattle.deadlock.proofs.Cases.{listed-node}
+use Rattle.deadlock.proofs.Cases.{entries-nodes}
 use Rattle.deadlock.proofs.Refused.{list-accepted}
 
 module _ (w : Waits) (g : ℕ) where
@@ -165,4 +165,4 @@ module _ (n : ℕ) (rows : List ℕ) (i : ℕ) (l : List ℕ) where
   member-node k e =
       let (ok, said) = judged-said (MemberSatisfied k) (λ r q. true≢false (cc q)) .0 e in
       let (before, after, s, h, u) = judgement-member (waitsOf n rows) i l k .0 said .1 in
-      listed-node n l (list-accepted n rows i l ok .1) (k .0) (rw s (Memᴰ·append-right before (here refl)))
+      entries-nodes n l .0 (list-accepted n rows i l ok .1) (k .0) (rw s (Memᴰ·append-right before (here refl)))

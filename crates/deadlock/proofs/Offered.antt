@@ -1,37 +1,23 @@
 -- What is written as evidence is never refused when it is offered, and passes for the claim that it was written for. Assumes nothing.
 use mathlib.Core.Path.{_≡_, sym, ap, subst, _∙_}
-use mathlib.Core.Bool.{false}
-use mathlib.Core.List.{List, List·Memᴰ}
-use Prim.Native.Nat.{ℕ, _<_}
-use native.Mathlib.Omega.{arith}
+use mathlib.Core.List.{List}
+use Prim.Native.Nat.{ℕ}
 use lib.ListN.{take}
 use lib.Seq.{take-at}
-use borrow.Author.Tests.{leb-true}
-use Rattle.lemmas.proofs.Tests.{not-true-false}
-use Rattle.lemmas.proofs.Any.{any-some}
 use Rattle.lemmas.proofs.Ascending.{ascending-test}
-use Rattle.nodes.specs.Sets.{noNode}
 use Rattle.waits.specs.declared.numbers.Checked.the-variants.{Accepted}
 use Rattle.waits.specs.Deadlocked.{Deadlocked}
 use Rattle.waits.specs.Rows.{waitsOf}
 use Rattle.waits.proofs.Lawful.{accepted-lawful}
 use Rattle.deadlock.specs.declared.evidence.Written.the-variants.{Bytes}
 use Rattle.deadlock.specs.declared.evidence.Judged.the-variants.{Passes}
-use Rattle.deadlock.specs.Refusals.{strangeEntry, checkNodeOf, checkListOf}
+use Rattle.deadlock.specs.Refusals.{checkNodeOf, checkListOf}
 use Rattle.deadlock.specs.Evidence.{Evidence, WrittenSays, judgedOf}
+use Rattle.deadlock.proofs.Cases.{entries-nodes}
 use Rattle.deadlock.proofs.Paths.{reachable-node}
 use Rattle.deadlock.proofs.Passing.{reachable-passes}
 use Rattle.deadlock.proofs.Judging.{judgement-passes, judged-as}
 use Rattle.deadlock.proofs.Refused.{list-fine, node-accepted, room-accepted}
-
-pub entries-known : (n : ℕ) (l : List ℕ) → ((j : ℕ) → List·Memᴰ j l → j < n) → strangeEntry n l ≡ false
-unfolding strangeEntry noNode
-entries-known n l f =
-    not-true-false _ (λ t.
-    let s = any-some (noNode n) l t in
-    let h = leb-true n (s .0) (s .2) in
-    let k = f (s .0) (s .1) in
-    absurd (omega arith))
 
 -- Evidence isn't refused, for whatever node it is offered.
 pub evidence-accepted : (n : ℕ) (rows : List ℕ) (i : ℕ) → checkNodeOf n rows i ≡ Accepted → (l : List ℕ) → Evidence (waitsOf n rows) i l
@@ -39,7 +25,7 @@ pub evidence-accepted : (n : ℕ) (rows : List ℕ) (i : ℕ) → checkNodeOf n 
 evidence-accepted n rows i ok l evidence j asked =
     let p = node-accepted n rows i ok in
     let law = accepted-lawful n rows (p .0) in
-    let known = entries-known n l (λ k m. reachable-node (waitsOf n rows) law (p .1) (evidence .members k .0 m .2)) in
+    let known = entries-nodes n l .1 (λ k m. reachable-node (waitsOf n rows) law (p .1) (evidence .members k .0 m .2)) in
     list-fine n rows j l asked known (ascending-test l (evidence .ascends))
 
 -- It passes for the claim that it was written for.

@@ -7,7 +7,7 @@ use Prim.Native.Nat.{ℕ, _<_}
 use native.Mathlib.Omega.{arith}
 use borrow.Author.Tests.{not-true}
 use Rattle.lemmas.proofs.Tests.{not-both, not-true-false, and-intro, and-left, and-right}
-use Rattle.lemmas.proofs.Any.{any-some, some-any}
+use Rattle.lemmas.proofs.Any.{any-none}
 use Rattle.nodes.specs.Sets.{bit, In, Inside, has, below, members, setOf}
 use Rattle.nodes.proofs.Bit.{in-or-out, has-in, in-has}
 use Rattle.nodes.proofs.Operations.{in-below, in-minus}
@@ -36,10 +36,10 @@ module _ (w : Waits) where
   passes-iff i l = (
     λ e. (
       in-list l i (has-in (setOf l) i (and-left (has (setOf l) i) _ e)),
-      λ j m. not-true-false _ (λ t. not-both (some-any holds l j m t) (not-true _ (and-right (has (setOf l) i) _ e))),
+      any-none holds l .0 (not-true _ (and-right (has (setOf l) i) _ e)),
     ),
     λ p. and-intro (has (setOf l) i) _ (in-has (setOf l) i (list-in l i (p .0)))
-        (ap not (not-true-false _ (λ t. let s = any-some holds l t in not-both (s .2) (p .1 (s .0) (s .1))))),
+        (ap not (any-none holds l .1 (p .1))),
   )
     where
       holds : ℕ → Bool

@@ -21,11 +21,11 @@ use Rattle.deadlock.specs.declared.evidence.Judged.the-variants.{Passes, Member
 use Rattle.deadlock.specs.Refusals.{checkNodeOf, checkListOf}
 use Rattle.deadlock.specs.Evidence.{judgement, judgedOf}
 use Rattle.deadlock.specs.Sweeps.{knot}
-use Rattle.deadlock.proofs.Cases.{listed-node}
+use Rattle.deadlock.proofs.Cases.{entries-nodes}
 use Rattle.deadlock.proofs.Refused.{node-accepted, list-accepted, list-fine}
 use Rattle.deadlock.proofs.Passing.{passes-deadlocked}
 use Rattle.deadlock.proofs.Judging.{judgement-passes, judgement-member, judged-as, judged-said}
-use Rattle.deadlock.proofs.Offered.{entries-known, evidence-passes}
+use Rattle.deadlock.proofs.Offered.{evidence-passes}
 use Rattle.deadlock.proofs.Answers.{asked-evidence}
 
 module _ (n : ℕ) (rows : List ℕ) (i : ℕ) where
@@ -40,8 +40,8 @@ module _ (n : ℕ) (rows : List ℕ) (i : ℕ) where
   pub set-listed : checkNodeOf n rows i ≡ Accepted → (l : List ℕ)
       → (checkListOf n rows i l ≡ Accepted) ↔ (((j : ℕ) → List·Memᴰ j l → j < n) × (members (setOf l) ≡ l))
   set-listed asked l = (
-    λ ok. (listed-node n l (list-accepted n rows i l ok .1), members-list l (tidy l ok)),
-    λ p. list-fine n rows i l asked (entries-known n l (p .0)) (ascending-test l (subst Ascending (p .1) (members-ascending (setOf l)))),
+    λ ok. (entries-nodes n l .0 (list-accepted n rows i l ok .1), members-list l (tidy l ok)),
+    λ p. list-fine n rows i l asked (entries-nodes n l .1 (p .0)) (ascending-test l (subst Ascending (p .1) (members-ascending (setOf l)))),
   )
 
   pub list-same : (l m : List ℕ) → checkListOf n rows i l ≡ Accepted → checkListOf n rows i m ≡ Accepted → ((j : ℕ) → List·Memᴰ j l ↔ List·Memᴰ j m) → l ≡ m

@@ -109,9 +109,9 @@ module _ (n : ℕ) (rows : List ℕ) where
         ↔ (List·Memᴰ i l
         × ((before : List ℕ) × (after : List ℕ) × (l ≡ before ++ k .0 ∷ after) × (w .holds (k .0) (outside w l) ≡ true)
         × ((j : ℕ) → List·Memᴰ j before → w .holds j (outside w l) ≡ false)))
-    -- "Whoever wrote the list, that is all that counts." The paper: a list that isn't refused is a set. If graph and node aren't refused,
-    -- a list isn't exactly if it names nodes alone and is the ascending list of its set's members; no other with these members is then
-    -- accepted, and the member that comes first is the lowest.
+    -- "Whoever wrote the list, that is all that counts." The paper: a list that isn't refused is a set. If graph and node aren't
+    -- refused, a list is accepted exactly if it names nodes alone and is the ascending list of its set's members; no other with these
+    -- members is then accepted, and the member that comes first is the lowest.
     pub as-set : checkNodeOf n rows i ≡ Accepted → (l : List ℕ)
         → (checkListOf n rows i l ≡ Accepted) ↔ (((j : ℕ) → List·Memᴰ j l → j < n) × (members (setOf l) ≡ l))
     pub one-list : (l m : List ℕ) → checkListOf n rows i l ≡ Accepted → checkListOf n rows i m ≡ Accepted → ((j : ℕ) → List·Memᴰ j l ↔ List·Memᴰ j m) → l ≡ m

@@ -1,7 +1,7 @@
 -- A test of some number in a list, and of some number below one. Assumes nothing.
 use mathlib.Core.Path.{_≡_, refl, sym, ap, ap₂, _∙_}
 use mathlib.Core.Bool.{Bool, true, false, _||_, false≢true}
-use mathlib.Core.Logic.{⊎-elim}
+use mathlib.Core.Logic.{⊎-elim, _↔_}
 use mathlib.Core.List.{List, [], _∷_, _++_, map, List·Memᴰ}
 use mathlib.Core.List.List·Memᴰ.{List·Memᴰ·head as here, List·Memᴰ·tail as there}
 use Prim.Native.Nat.{ℕ, zero, suc, _+_, _≤_, _<_}
@@ -11,7 +11,7 @@ use native.Mathlib.Omega.{arith}
 use lib.ListN.{length, getD, drop}
 use Rattle.lemmas.specs.Lists.{anyOf, anyBelow}
 use Rattle.lemmas.proofs.Walks.{Left, left-next, left-passed, left-ended}
-use Rattle.lemmas.proofs.Tests.{not-both, or-left-false, or-right-false, or-cases, or-intro-left, or-intro-right}
+use Rattle.lemmas.proofs.Tests.{not-both, not-true-false, or-left-false, or-right-false, or-cases, or-intro-left, or-intro-right}
 
 -- ---- a test of some member
 pub any-some : (p : ℕ → Bool) (l : List ℕ) → anyOf p l ≡ true → (x : ℕ) × List·Memᴰ x l × (p x ≡ true)
@@ -26,6 +26,13 @@ any-some p (a ∷ l) e =
 pub some-any : (p : ℕ → Bool) (l : List ℕ) (x : ℕ) → List·Memᴰ x l → p x ≡ true → anyOf p l ≡ true
 some-any p (a ∷ l) x (here e) h = or-intro-left (p a) (anyOf p l) (rw e at h)
 some-any p (a ∷ l) x (there m) h = or-intro-right (p a) (anyOf p l) (some-any p l x m h)
+
+-- Law: none meets it exactly if each doesn't.
+pub any-none : (p : ℕ → Bool) (l : List ℕ) → (anyOf p l ≡ false) ↔ ((x : ℕ) → List·Memᴰ x l → p x ≡ false)
+any-none p l = (
+  λ e x m. not-true-false _ (λ t. not-both (some-any p l x m t) e),
+  λ f. not-true-false _ (λ t. let s = any-some p l t in not-both (s .2) (f (s .0) (s .1))),
+)
 
 -- no number of the list meets it, so the one at a place doesn't
 pub none-at : (p : ℕ → Bool) (l : List ℕ) (at : ℕ) → at < length l → anyOf p l ≡ false → p (getD l at 0) ≡ false

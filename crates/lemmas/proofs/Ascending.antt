@@ -33,7 +33,7 @@ test-ascending (x ∷ y ∷ l) e =
     over h up b (here q) = omega arith
     over h up b (there m) = let k = up .0 b m in omega arith
 
--- ---- a walk that compares each number with the one before it: the answer is that of the numbers from the last one on
+-- ---- a walk that compares each number with the one before it: the answer is that of the numbers from the one before on
 abbrev pub AscendingLeft : List ℕ → ℕ → Type 0
 AscendingLeft l at = (1 ≤ at) × Left ascending l (at - 1)
 

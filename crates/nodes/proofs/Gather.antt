@@ -77,7 +77,7 @@ in-list (x ∷ l) k i = elim (ℕ-discrete k x) [
 ]
 
 -- a list of numbers is as a set what its members are
-pub same-list : (l m : List ℕ) → ((k : ℕ) → List·Memᴰ k l ↔ List·Memᴰ k m) → setOf l ≡ setOf m
+same-list : (l m : List ℕ) → ((k : ℕ) → List·Memᴰ k l ↔ List·Memᴰ k m) → setOf l ≡ setOf m
 same-list l m f = same-members _ _ (λ k. (λ i. list-in m k (f k .0 (in-list l k i)), λ i. list-in l k (f k .1 (in-list m k i))))
 
 -- one number more at the end
