@@ -1,7 +1,8 @@
-//! Times the proved library against the second program, both in this process. Words name what to measure; without any, all of it.
+//! Times the proved library against the second program, both in this process, and the program `claims` against the second one. Words name what to measure; without any, all of it.
 
 mod conditions;
 mod deliveries;
+mod files;
 mod filled;
 mod graphs;
 mod growth;
@@ -15,11 +16,12 @@ mod waiting;
 
 use std::process::ExitCode;
 
-const MEASURES: [(&str, fn()); 4] = [
+const MEASURES: [(&str, fn()); 5] = [
     ("reduction", reduction::measure),
     ("rounds", rounds::measure),
     ("growth", growth::measure),
     ("deliveries", deliveries::measure),
+    ("files", files::measure),
 ];
 
 fn main() -> ExitCode {

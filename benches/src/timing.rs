@@ -37,6 +37,22 @@ fn repeated(calls: u32, work: &mut dyn FnMut()) -> Duration {
     processor_time() - start
 }
 
+/// The time that the processes which this one has started, and which have ended, have had a processor.
+pub fn children_time() -> Duration {
+    /// The user's part and the system's, each in seconds and microseconds, and fourteen counts.
+    type Usage = [i64; 18];
+    extern "C" {
+        fn getrusage(whose: i32, usage: *mut Usage) -> i32;
+    }
+    const OF_CHILDREN: i32 = -1;
+    let mut usage: Usage = [0; 18];
+    // Linux writes these numbers, as its C library declares them for 64-bit processors.
+    let status = unsafe { getrusage(OF_CHILDREN, &mut usage) };
+    assert_eq!(status, 0, "the processor time of processes can't be read");
+    Duration::from_secs((usage[0] + usage[2]) as u64)
+        + Duration::from_micros((usage[1] + usage[3]) as u64)
+}
+
 /// The time that this thread has had a processor, which other programs' turns don't add to.
 fn processor_time() -> Duration {
     #[repr(C)]

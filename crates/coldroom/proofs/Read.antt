@@ -4,7 +4,7 @@ use Prim.Native.Nat.{_/_, _%_, _≤_, _<_}
 use native.Mathlib.Omega.{arith}
 use Rattle.waits.specs.declared.numbers.Refusal.{Refusal}
 use Rattle.coldroom.specs.Results.{refusal, plus}
-use Rattle.coldroom.specs.Small.{Small}
+use Rattle.waits.specs.Numbers.{Small}
 
 -- Theorem: a refusal is 1 to 65,535, its number what is left by 256 and its row the rest.
 pub record Read (r : Refusal) : Type 0 where

@@ -1,6 +1,7 @@
 // The one number that a call hands back for a refusal, or for what a controller answers.
 ghost use mathlib.Core.Path.{_≡_};
-ghost use Rattle.coldroom.specs.Small.{Small, SmallAnswer};
+ghost use Rattle.waits.specs.Numbers.{Small};
+ghost use Rattle.coldroom.specs.Small.{SmallAnswer};
 ghost use Rattle.coldroom.specs.Results.{refusal as refusal-of, answer as answer-of};
 use step::Answer;
 use step::code;

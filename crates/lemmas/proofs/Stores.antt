@@ -5,7 +5,7 @@ use Prim.Native.Nat.{ℕ, zero, suc, _+_, _≤_, _<_}
 use native.Mathlib.Nat.{add-zero, add-suc, suc-add}
 use native.Mathlib.Omega.{arith}
 use lib.ListN.{length, getD, take, drop, set, length-set}
-use lib.Seq.{sets, sets-eq, take-at, set-getD, getD-set-same, getD-set-other}
+use lib.Seq.{sets, sets-eq, take-at, set-out, set-getD, getD-set-same, getD-set-other}
 
 -- ---- one run after another
 pub sets-append : (xs ys l : List ℕ) (i : ℕ) → sets (sets l i xs) (i + length xs) ys ≡ sets l i (xs ++ ys)
@@ -25,6 +25,11 @@ pub sets-at : (vs l : List ℕ) (i j : ℕ) → j < length vs → i + length vs 
 sets-at [] l i j h k = absurd (omega arith)
 sets-at (a ∷ vs) l i zero h k = rw add-zero (sets-before vs (set l i a) (suc i) i (omega arith) ∙ getD-set-same l i a 0 (omega arith))
 sets-at (a ∷ vs) l i (suc j) h k = rw (add-suc, ← suc-add) (sets-at vs (set l i a) (suc i) j (omega arith) (rw length-set (omega arith)))
+
+-- past the last place nothing is stored
+pub sets-out : (vs l : List ℕ) (i : ℕ) → length l ≤ i → sets l i vs ≡ l
+sets-out [] l i h = refl
+sets-out (a ∷ vs) l i h = ap (λ (x : List ℕ). sets x (suc i) vs) (set-out l i a h) ∙ sets-out vs l (suc i) (omega arith)
 
 -- numbers that stand there already
 pub sets-same : (vs l : List ℕ) (i : ℕ) → ((j : ℕ) → j < length vs → getD vs j 0 ≡ getD l (i + j) 0) → sets l i vs ≡ l

@@ -20,7 +20,7 @@ message : messageLine 0 0 0 1 1 ≡ word "message 0 NOTIFY 0 1 1\n"
 unfolding word digits decimal field kindName messageLine
 message = refl
 
-whole : refusedLine 13 ≡ word "refused 13 0\n"
+whole : refusedLine 13 0 ≡ word "refused 13 0\n"
 unfolding word digits decimal field refusedLine
 whole = refl
 

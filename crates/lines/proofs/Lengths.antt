@@ -11,7 +11,7 @@ use Rattle.text.proofs.Decimal.{decimal-five}
 use Rattle.lines.specs.Lines.{field, nameIn, names, nameOf, answerLine, kindName, messageLine, refusedLine, noScriptLine}
 
 -- one part after another
-joined : (xs ys : List ℕ) (m n : ℕ) → length xs ≤ m → length ys ≤ n → length (xs ++ ys) ≤ m + n
+pub joined : (xs ys : List ℕ) (m n : ℕ) → length xs ≤ m → length ys ≤ n → length (xs ++ ys) ≤ m + n
 joined xs ys m n h k = omega (arith, length-append xs ys)
 
 field-length : (n : ℕ) → n < 100000 → length (field n) ≤ 6
@@ -68,9 +68,12 @@ message-length k kind from to round a b c d =
     (kind-length kind)) (field-length from b)) (field-length to c)) (field-length round d))
     (omega arith)
 
-pub refused-length : (n : ℕ) → n < 100000 → length (refusedLine n) ≤ 16
+pub refused-length : (n place : ℕ) → n < 100000 → place < 100000 → length (refusedLine n place) ≤ 20
 unfolding refusedLine word
-refused-length n h = joined (word "refused" ++ field n) (word " 0\n") 13 3 (joined (word "refused") (field n) 7 6 (omega arith) (field-length n h)) (omega arith)
+refused-length n place h k =
+    joined (word "refused" ++ field n ++ field place) (word "\n") 19 1
+    (joined (word "refused" ++ field n) (field place) 13 6 (joined (word "refused") (field n) 7 6 (omega arith) (field-length n h)) (field-length place k))
+    (omega arith)
 
 pub no-script-length : length noScriptLine ≤ 15
 unfolding noScriptLine word

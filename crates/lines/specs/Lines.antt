@@ -1,4 +1,5 @@
--- The lines of a replay: one for each answer, one for each message, and the one where there is nothing to replay. Assumes nothing.
+-- The lines that the programs answer with: of a replay one for each answer, one for each message, and the one where there is
+-- nothing to replay; and the line of a refusal as a whole. Assumes nothing.
 use mathlib.Core.Bool.{cond}
 use mathlib.Core.List.{List, [], _∷_, _++_}
 use Prim.Native.Nat.{ℕ, zero, suc, _/_, _%_, _^_}
@@ -51,9 +52,9 @@ unfoldable pub messageLine : (k kind from to round : ℕ) → List ℕ
 messageLine k kind from to round =
     word "message" ++ field k ++ word " " ++ kindName kind ++ field from ++ field to ++ field round ++ word "\n"
 
--- the steps are refused as a whole, with nothing sent
-unfoldable pub refusedLine : ℕ → List ℕ
-refusedLine n = word "refused" ++ field n ++ word " 0\n"
+-- a refusal as a whole: its number, and where it is, 0 if that is nowhere
+unfoldable pub refusedLine : ℕ → ℕ → List ℕ
+refusedLine n place = word "refused" ++ field n ++ field place ++ word "\n"
 
 -- the input is no script
 unfoldable pub noScriptLine : List ℕ

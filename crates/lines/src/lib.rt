@@ -1,4 +1,4 @@
-// The lines of a replay, written into lent bytes.
+// The lines that the programs answer with, written into lent bytes.
 ghost use mathlib.Core.Path.{_≡_};
 ghost use Prim.Native.Nat.{_≤_};
 ghost use lib.ListN.{length, take};
@@ -97,13 +97,14 @@ pub fn message(
     put(room, end, b'\n')
 }
 
-// The line where the steps are refused as a whole.
-pub fn refused(room: &mut [u8], at: usize, n: u64) -> usize
-    ensures { λ r. ⌜ text (now (room .exit)) r ≡ write (text (now (room .entry)) at) (refusedLine n) ⌝ }
+// The line of a refusal as a whole.
+pub fn refused(room: &mut [u8], at: usize, n: u64, place: u64) -> usize
+    ensures { λ r. ⌜ text (now (room .exit)) r ≡ write (text (now (room .entry)) at) (refusedLine n place) ⌝ }
 {
     let said = bytes(room, at, b"refused");
-    let end = field(room, said, n);
-    bytes(room, end, b" 0\n")
+    let numbered = field(room, said, n);
+    let end = field(room, numbered, place);
+    put(room, end, b'\n')
 }
 
 // The line where the input is no script.

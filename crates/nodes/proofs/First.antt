@@ -1,12 +1,13 @@
 -- The smallest member of a set: where it is, and what is left without it. Assumes nothing.
 use mathlib.Core.Path.{_≡_, refl, sym, ap, ap₂, _∙_}
 use mathlib.Core.List.{List, [], _∷_, _++_}
-use mathlib.Core.List.List·Memᴰ.{List·Memᴰ·tail as there}
+use mathlib.Core.List.List·Memᴰ.{List·Memᴰ·head as here, List·Memᴰ·tail as there}
 use Prim.Native.Nat.{ℕ, zero, suc, _+_, _/_, _%_, _^_, _<_}
 use native.Mathlib.Nat.{suc-inj, suc-ne-zero, zero-add, add-zero, suc-add, add-suc}
 use native.Mathlib.Omega.{arith}
 use native.Mathlib.Numerals.{add-one}
 use lib.Dec.{eqb}
+use lib.ListN.{length}
 use lib.Arith.{lt-one}
 use lib.Pow.{shr-lt}
 use lib.Count.{trailingZeros, under}
@@ -15,10 +16,12 @@ use Rattle.lemmas.proofs.Once.{not-first}
 use Rattle.nodes.specs.declared.Node.{Node}
 use Rattle.nodes.specs.declared.Smallest.{Smallest}
 use Rattle.nodes.specs.declared.Smallest.the-variants.{At, Nothing}
-use Rattle.nodes.specs.Sets.{single, minus, only, members}
+use Rattle.nodes.specs.Sets.{single, with, minus, only, members, size}
 use Rattle.nodes.specs.Words.{firstOf}
-use Rattle.nodes.proofs.Operations.{in-minus, bit-single-same, bit-single-other}
+use Rattle.nodes.proofs.Bit.{in-lt}
+use Rattle.nodes.proofs.Operations.{with-empty, in-minus, bit-single-same, bit-single-other}
 use Rattle.nodes.proofs.Members.{from, from-step, from-none, members-from, members-in, members-ascending}
+use Rattle.nodes.proofs.Size.{size-members}
 
 abbrev found : ℕ → Smallest
 found k = At (record { 0 = k })
@@ -73,3 +76,17 @@ none-of (x ∷ l) e = absurd (suc-ne-zero _ (sym (ap number e)))
 
 pub members-ended : (s : ℕ) → Nothing ≡ firstOf (members s) → members s ≡ []
 members-ended s e = none-of (members s) e
+
+-- ---- as a loop takes the smallest member out again and again: the set of it alone is made of the empty one
+module _ (s : ℕ) (k : Node) (first : At k ≡ firstOf (members s)) where
+  pub first-place : (w : ℕ) → s < 2 ^ w → k .0 < w
+  first-place w h = in-lt w s (k .0) h (members-in s (k .0) .0 (rw (members-first s k first) (here refl)))
+
+  module _ {t x e : ℕ} (p : t ≡ minus s x) (q : x ≡ with e (k .0)) (z : e ≡ 0) where
+    pub first-rest : members s ≡ k .0 ∷ members t
+    first-rest =
+        let same : t ≡ minus s (single (k .0)) = p ∙ ap (minus s) (q ∙ ap (λ (y : ℕ). with y (k .0)) z ∙ with-empty (k .0)) in
+        members-first s k first ∙ ap (λ (y : ℕ). k .0 ∷ members y) (sym same)
+
+    pub first-less : size t < size s
+    first-less = omega (arith, size-members s, ap length first-rest, size-members t)

@@ -17,6 +17,7 @@ use Rattle.lemmas.specs.Lists.{Ascending, Once}
 use Rattle.lemmas.proofs.Ascending.{ascending-snoc, ascending-unique, ascending-once}
 use Rattle.nodes.specs.Sets.{bit, In, has, only, membersFrom, members, setOf}
 use Rattle.nodes.proofs.Bit.{bit-le, in-or-out, in-lt, has-in, in-has, pow-gt, empty-same}
+use Rattle.nodes.proofs.Inside.{same-members}
 use Rattle.nodes.proofs.Gather.{list-in, in-list}
 
 -- ---- the members from k on, however large the bound of the recursion
@@ -134,6 +135,10 @@ pub members-list : (l : List ℕ) → Ascending l → members (setOf l) ≡ l
 members-list l up =
     ascending-unique (members (setOf l)) l (members-ascending (setOf l)) up
     (λ k. (λ m. in-list l k (members-in (setOf l) k .0 m), λ m. members-in (setOf l) k .1 (list-in l k m)))
+
+-- and a set is that of its members
+pub set-members : (s : ℕ) → setOf (members s) ≡ s
+set-members s = same-members _ _ (λ k. (λ i. members-in s k .0 (in-list (members s) k i), λ i. list-in (members s) k (members-in s k .1 i)))
 
 -- a set is empty, or has a member
 pub none-or-some : (s : ℕ) → (s ≡ 0) ⊎ ((k : ℕ) × In k s)

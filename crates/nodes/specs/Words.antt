@@ -13,6 +13,10 @@ places = 64
 unfoldable pub num : Set → ℕ
 num s = s .0
 
+-- and the set of the code that a number is
+unfoldable pub asSet : ℕ → Set
+asSet n = record { 0 = n }
+
 -- the head of an ascending list of members
 abbrev pub firstOf : List ℕ → Smallest
 firstOf [] = Nothing

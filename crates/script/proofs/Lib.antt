@@ -1,5 +1,4 @@
 -- Reading numbers, from what each byte does; steps in a list; a script's numbers, and its bytes; what the promises settle.
-pub mod Bytes
 pub mod Reading
 pub mod Counts
 pub mod Triples

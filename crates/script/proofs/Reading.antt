@@ -12,12 +12,13 @@ use lib.Seq.{drop-cons, set-out, sets, length-sets}
 use borrow.Author.Tests.{le-leb, lt-leb}
 use Rattle.lemmas.proofs.Cases.{at-true, at-false}
 use Rattle.lemmas.proofs.Tests.{and-intro, and-first, and-later}
+use Rattle.text.specs.declared.digits.Next.{Next}
+use Rattle.text.specs.declared.digits.Next.the-variants.{Number, Strange}
+use Rattle.text.specs.Digits.{grown}
 use Rattle.script.specs.declared.numbers.Place.{Place}
 use Rattle.script.specs.declared.numbers.Place.the-variants.{Between, Within}
-use Rattle.script.specs.declared.numbers.Next.{Next}
-use Rattle.script.specs.declared.numbers.Next.the-variants.{Number, Strange}
 use Rattle.script.specs.declared.numbers.Count.the-variants.{Bad, Read}
-use Rattle.script.specs.Numbers.{blank, grown, Said, said, ending, ended, EndSays, after, numbersFrom, numbersOf, countOf, ReadSays}
+use Rattle.script.specs.Numbers.{blank, soFar, Said, said, ending, ended, EndSays, after, numbersFrom, numbersOf, countOf, ReadSays}
 
 -- ---- what is left of a text, one byte further
 module _ (p : Place) (l : List ℕ) (i : ℕ) where
@@ -34,10 +35,14 @@ module _ (p : Place) (l : List ℕ) (i : ℕ) where
     unfolding numbersFrom
     from-blank e = here ∙ sym (at-true _ e refl)
 
-    pub from-next : blank (getD l i 0) ≡ false → {n : Next} → n ≡ grown p (getD l i 0)
+    pub from-next : blank (getD l i 0) ≡ false → {v : ℕ} {n : Next} → v ≡ soFar p → n ≡ grown v (getD l i 0)
         → numbersFrom p (drop i l) ≡ after n (λ v. numbersFrom (Within v) (drop (i + 1) l))
     unfolding numbersFrom
-    from-next e g = here ∙ sym (at-false _ e (ap (λ (x : Next). after x (λ v. numbersFrom (Within v) (drop (i + 1) l))) g))
+    from-next e s g =
+        here
+        ∙ sym
+        (at-false _ e
+        (ap (λ (x : Next). after x (λ v. numbersFrom (Within v) (drop (i + 1) l))) (g ∙ ap (λ (v : ℕ). grown v (getD l i 0)) s)))
 
 -- ---- a number ends: there is none, there is no place for it, or it is stored
 module _ (left : List ℕ) (count : ℕ) {p : Place} where
@@ -117,12 +122,12 @@ module _ (l lent left : List ℕ) (count : ℕ) (p : Place) (i : ℕ) (r : Readi
     long = as-long e;
   }
 
-  pub reading-grown : i < length l → blank (getD l i 0) ≡ false → (v : ℕ) → Number v ≡ grown p (getD l i 0) → Reading l lent left count (Within v) (i + 1)
-  reading-grown h b v g = record { stored = rw (from-next p l i h b g) at (r .stored); few = omega (arith, r .few); long = r .long }
+  pub reading-grown : i < length l → blank (getD l i 0) ≡ false → {u : ℕ} → u ≡ soFar p → (v : ℕ) → Number v ≡ grown u (getD l i 0) → Reading l lent left count (Within v) (i + 1)
+  reading-grown h b s v g = record { stored = rw (from-next p l i h b s g) at (r .stored); few = omega (arith, r .few); long = r .long }
 
-  pub reading-strange : i < length l → blank (getD l i 0) ≡ false → Strange ≡ grown p (getD l i 0) → ReadSays l lent left Bad
-  reading-strange h b g =
-      let s : Stored lent (numbersOf l) left count (said [] false) = rw (from-next p l i h b g) at (r .stored) in
+  pub reading-strange : i < length l → blank (getD l i 0) ≡ false → {u : ℕ} → u ≡ soFar p → Strange ≡ grown u (getD l i 0) → ReadSays l lent left Bad
+  reading-strange h b e g =
+      let s : Stored lent (numbersOf l) left count (said [] false) = rw (from-next p l i h b e g) at (r .stored) in
       record { stored = s .numbers; counted = stored-strange s }
 
   at-end : {left′ : List ℕ} {count′ : ℕ} → length l ≤ i → EndSays p left left′ count count′ → Stored lent (numbersOf l) left′ count′ (said [] true)

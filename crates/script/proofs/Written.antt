@@ -10,14 +10,15 @@ use lib.Dec.{ltb}
 use borrow.Author.Tests.{ltb-true, ltb-false, ne-eqb}
 use Rattle.lemmas.proofs.Cases.{at-false, or-later}
 use Rattle.lemmas.proofs.Tests.{true-or-false}
+use Rattle.text.specs.declared.digits.Next.{Next}
+use Rattle.text.specs.declared.digits.Next.the-variants.{Number}
 use Rattle.text.specs.Words.{digit as byte, decimal}
+use Rattle.text.specs.Digits.{grown}
+use Rattle.text.proofs.Reading.{digit-is, grown-is}
 use Rattle.text.proofs.Decimal.{decimal-small, decimal-large}
 use Rattle.script.specs.declared.numbers.Place.{Place}
 use Rattle.script.specs.declared.numbers.Place.the-variants.{Between, Within}
-use Rattle.script.specs.declared.numbers.Next.{Next}
-use Rattle.script.specs.declared.numbers.Next.the-variants.{Number}
-use Rattle.script.specs.Numbers.{blank, soFar, grown, said, after, numbersFrom, numbersOf}
-use Rattle.script.proofs.Bytes.{digit-is, grown-is}
+use Rattle.script.specs.Numbers.{blank, soFar, said, after, numbersFrom, numbersOf}
 
 not-blank : (d : ℕ) → blank (byte d) ≡ false
 unfolding blank
@@ -32,8 +33,8 @@ digit-read : (p : Place) (d v : ℕ) (l : List ℕ) → d < 10 → soFar p * 10 
 unfolding numbersFrom
 digit-read p d v l h e s =
     let back : byte d - 48 ≡ d = omega arith in
-    let g : Number v ≡ grown p (byte d) =
-    ap Number (sym (ap (λ (x : ℕ). soFar p * 10 + x) back ∙ e)) ∙ grown-is p (byte d) (digit-is (byte d) (omega arith) (omega arith)) (omega arith)
+    let g : Number v ≡ grown (soFar p) (byte d) =
+    ap Number (sym (ap (λ (x : ℕ). soFar p * 10 + x) back ∙ e)) ∙ grown-is (soFar p) (byte d) (digit-is (byte d) (omega arith) (omega arith)) (omega arith)
     in
     sym (at-false _ (not-blank d) (ap (λ (x : Next). after x (λ w. numbersFrom (Within w) l)) g))
 

@@ -2,14 +2,15 @@
 use mathlib.Core.Path.{_≡_}
 use mathlib.Core.Bool.{Bool, true, false, cond, _&&_, _||_}
 use mathlib.Core.List.{List, [], _∷_, _++_}
-use Prim.Native.Nat.{ℕ, _+_, _-_, _*_, _^_}
-use lib.Dec.{leb, ltb, eqb}
+use Prim.Native.Nat.{ℕ, _+_}
+use lib.Dec.{leb, eqb}
 use lib.ListN.{length}
 use lib.Seq.{sets}
+use Rattle.text.specs.declared.digits.Next.{Next}
+use Rattle.text.specs.declared.digits.Next.the-variants.{Number, Strange}
+use Rattle.text.specs.Digits.{grown}
 use Rattle.script.specs.declared.numbers.Place.{Place}
 use Rattle.script.specs.declared.numbers.Place.the-variants.{Between, Within}
-use Rattle.script.specs.declared.numbers.Next.{Next}
-use Rattle.script.specs.declared.numbers.Next.the-variants.{Number, Strange}
 use Rattle.script.specs.declared.numbers.Count.{Count}
 use Rattle.script.specs.declared.numbers.Count.the-variants.{Bad, Read}
 
@@ -17,20 +18,10 @@ use Rattle.script.specs.declared.numbers.Count.the-variants.{Bad, Read}
 unfoldable pub blank : ℕ → Bool
 blank b = eqb b 32 || (eqb b 9 || (eqb b 10 || eqb b 13))
 
--- 0 to 9
-unfoldable pub digit : ℕ → Bool
-digit b = leb 48 b && leb b 57
-
 -- A reader is between two numbers, or within one: its value so far.
 abbrev pub soFar : Place → ℕ
 soFar Between = 0
 soFar (Within v) = v
-
--- a byte that isn't blank: one digit more of the number, which has 64 bits at most; anything else is strange
-unfoldable pub grown : Place → ℕ → Next
-grown p b =
-    let v = soFar p * 10 + (b - 48) in
-    cond (digit b) (cond (ltb v (2 ^ 64)) (Number v) Strange) Strange
 
 -- What a text says: the numbers that end before anything strange comes, and whether nothing strange comes.
 pub record Said : Type 0 where
@@ -49,7 +40,7 @@ ending (Within v) = v ∷ []
 abbrev pub ended : Place → Said → Said
 ended p s = said (ending p ++ s .numbers) (s .good)
 
--- it goes on, or nothing more is said
+-- a byte that isn't blank: the number goes on, or nothing more is said
 abbrev pub after : Next → (ℕ → Said) → Said
 after Strange f = said [] false
 after (Number v) f = f v
@@ -57,7 +48,7 @@ after (Number v) f = f v
 -- what is left of a text, for a reader at a place in it: a blank or the end ends a number
 unfoldable pub numbersFrom : Place → List ℕ → Said
 numbersFrom p [] = said (ending p) true
-numbersFrom p (b ∷ l) = cond (blank b) (ended p (numbersFrom Between l)) (after (grown p b) (λ v. numbersFrom (Within v) l))
+numbersFrom p (b ∷ l) = cond (blank b) (ended p (numbersFrom Between l)) (after (grown (soFar p) b) (λ v. numbersFrom (Within v) l))
 
 unfoldable pub numbersOf : List ℕ → Said
 numbersOf bytes = numbersFrom Between bytes

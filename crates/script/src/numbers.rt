@@ -1,21 +1,14 @@
 // Decimal numbers with blanks between them, read from bytes.
 ghost use mathlib.Core.Path.{_≡_};
 ghost use Prim.Native.Nat.{_<_, _^_};
-ghost use Rattle.script.specs.Numbers.{blank as blank-of, soFar, grown as grown-of, EndSays, ReadSays};
-
-// The largest number of 64 bits.
-const LARGEST: u64 = 18446744073709551615;
+ghost use Rattle.script.specs.Numbers.{blank as blank-of, soFar, EndSays, ReadSays};
+use text::Next;
+use text::grown;
 
 // Where a reader is: between two numbers, or within one, with its value so far.
 pub enum Place {
     Between,
     Within(u64),
-}
-
-// What a byte that is not blank makes of the number.
-pub enum Next {
-    Number(u64),
-    Strange,
 }
 
 pub enum Count {
@@ -47,27 +40,6 @@ fn so_far(p: Place) -> u64
     }
 }
 
-// The number with one digit more.
-fn grown(p: Place, b: u8) -> Next
-    ensures { λ r. ⌜ r ≡ grown-of p b ⌝ }
-{
-    if b < b'0' {
-        return Next::Strange;
-    }
-    if b'9' < b {
-        return Next::Strange;
-    }
-    let digit = (b - b'0') as u64;
-    let v = so_far(p);
-    if LARGEST / 10 < v {
-        return Next::Strange;
-    }
-    if LARGEST - digit < v * 10 {
-        return Next::Strange;
-    }
-    Next::Number(v * 10 + digit)
-}
-
 // Ends the number under way, if there is one: it goes to the next place, if there is one. Says how many numbers there are.
 fn end(p: Place, numbers: &mut [u64], count: usize) -> usize
     requires { ⌜ count < 2 ^ 63 ⌝ }
@@ -96,7 +68,7 @@ pub fn read(script: &[u8], numbers: &mut [u64]) -> Count
             count = end(p, numbers, count);
             p = Place::Between;
         } else {
-            let next = grown(p, b);
+            let next = grown(so_far(p), b);
             match next {
                 Next::Strange => return Count::Bad,
                 Next::Number(v) => p = Place::Within(v),

@@ -54,6 +54,10 @@ one-more b k h n l =
     omega (arith, ap length (decimal-large n (ltb-false n 10 e)), length-append (decimal (n / 10)) (digit (n % 10) ∷ []), h (n / 10) (omega arith)))
     (true-or-false (ltb n 10))
 
--- below 100,000 it has at most five digits
+-- below 100 it has at most two digits
+pub decimal-two : (n : ℕ) → n < 100 → length (decimal n) ≤ 2
+decimal-two = one-more 10 1 (λ m h. omega (arith, ap length (decimal-small m h)))
+
+-- below 100,000 at most five
 pub decimal-five : (n : ℕ) → n < 100000 → length (decimal n) ≤ 5
-decimal-five = one-more 10000 4 (one-more 1000 3 (one-more 100 2 (one-more 10 1 (λ m h. omega (arith, ap length (decimal-small m h))))))
+decimal-five = one-more 10000 4 (one-more 1000 3 (one-more 100 2 decimal-two))

@@ -1,5 +1,6 @@
--- The laws of written text and of decimal numbers.
+-- The laws of written text, of decimal numbers and of digits that are read.
 pub mod Writing
 pub mod Pieces
 pub mod Decimal
+pub mod Reading
 pub mod Examples

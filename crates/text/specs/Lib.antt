@@ -1,3 +1,4 @@
--- Text as bytes, numbers in decimal, and lent bytes that text is written into.
+-- Text as bytes, numbers in decimal, digits that are read, and lent bytes that text is written into.
 pub mod Words
+pub mod Digits
 pub mod Text

@@ -1,8 +1,13 @@
-// Text written into lent bytes, clipped at their end: a byte, bytes, a number in decimal.
+// Text written into lent bytes, clipped at their end: a byte, bytes, a number in decimal. Digits read are in their own file.
 ghost use mathlib.Core.Path.{_≡_};
 ghost use mathlib.Core.List.{[], _∷_};
 ghost use Rattle.text.specs.Words.{decimal};
 ghost use Rattle.text.specs.Text.{text, write};
+
+mod digits;
+
+pub use digits::Next;
+pub use digits::grown;
 
 // Writes a byte at a place if there is one, and says where the next goes.
 pub fn put(room: &mut [u8], at: usize, byte: u8) -> usize

@@ -107,7 +107,7 @@ module _ (s : Script) (few : length (s .steps) ≤ most) where
   unfolding played toldOf
   refused-short e =
       subst (λ (x : List ℕ). length x ≤ longestText) (sym (ap told (run-refused n (s .rows) start (s .steps) places-for e)))
-      (let r = refused-length 13 (omega arith) in omega arith)
+      (let r = refused-length 13 0 (omega arith) (omega arith) in omega arith)
 
   taken-short : Good n (s .rows) start → length (played s) ≤ longestText
   unfolding played toldOf

@@ -11,7 +11,7 @@ use Rattle.lines.specs.Lines.{answerLines, refusedLine}
 use Rattle.transcript.specs.Transcript.{messageLines, toldOf}
 
 module _ {c : Checked} (answers sent : List ℕ) (t : Text) {u : Text} where
-  pub told-refused : {r : Refusal} → c ≡ Refused r → u ≡ write t (refusedLine (r .number)) → u ≡ write t (toldOf c answers sent)
+  pub told-refused : {r : Refusal} → c ≡ Refused r → u ≡ write t (refusedLine (r .number) 0) → u ≡ write t (toldOf c answers sent)
   unfolding toldOf
   told-refused e f = f ∙ ap (λ (x : Checked). write t (toldOf x answers sent)) (sym e)
 

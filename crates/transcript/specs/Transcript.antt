@@ -28,7 +28,7 @@ messageLines k (x ∷ l) = lineOf k (messageOf x) ++ messageLines (suc k) l
 
 -- a line for each answer and then one for each message, or the one line of a list that is refused as a whole
 unfoldable pub toldOf : Checked → List ℕ → List ℕ → List ℕ
-toldOf (Refused r) answers sent = refusedLine (r .number)
+toldOf (Refused r) answers sent = refusedLine (r .number) 0
 toldOf Accepted answers sent = answerLines answers ++ messageLines 0 sent
 
 abbrev pub told : Run → List ℕ

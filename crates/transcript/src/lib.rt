@@ -60,7 +60,7 @@ fn tell(room: &mut [u8], ran: Ran, answers: &[u64], steps: usize, list: &[u64]) 
 {
     let checked = ran.checked;
     match checked {
-        Checked::Refused(r) => lines::refused(room, 0, r.number),
+        Checked::Refused(r) => lines::refused(room, 0, r.number, 0),
         Checked::Accepted => {
             let end = lines::answers(room, 0, answers, steps);
             messages(room, end, list, ran.sent)

@@ -3,7 +3,7 @@
 use mathlib.Core.Path.{_≡_}
 use mathlib.Core.Bool.{Bool, true, false, cond, not, _&&_, _||_}
 use mathlib.Core.List.{List, [], _∷_, _++_, List·Memᴰ}
-use Prim.Native.Nat.{ℕ, zero, suc, _*_}
+use Prim.Native.Nat.{ℕ, zero, suc, _*_, _≤_, _<_}
 use lib.Dec.{leb, ltb, eqb}
 use lib.ListN.{length}
 use Rattle.lemmas.specs.Lists.{anyOf}
@@ -120,3 +120,7 @@ pub record Gives (ls : List Line) (r : Refusal) : Type 0 where
   pub refusal : this .gives ≡ r
   pub speaks : this .says ≡ true
   pub silent : Silent earlier
+
+-- a refusal whose number and row one byte each can hold, as those of the table can
+abbrev pub Small : Refusal → Type 0
+Small r = (1 ≤ r .number) × (r .number < 256) × (r .row .0 < 256)

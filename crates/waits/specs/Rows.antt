@@ -1,8 +1,8 @@
 -- What rows mean: six numbers a node, its kind, its threshold and four sets. Assumes nothing.
 use mathlib.Core.Bool.{Bool, true, false, cond, not, _&&_}
-use mathlib.Core.List.{List, [], _∷_}
+use mathlib.Core.List.{List, [], _∷_, _++_}
 use mathlib.Core.Path.{_≡_}
-use Prim.Native.Nat.{ℕ, _+_, _*_, _≤_}
+use Prim.Native.Nat.{ℕ, zero, suc, _+_, _*_, _≤_}
 use lib.Dec.{leb, eqb}
 use lib.ListN.{getD, length}
 use Rattle.lemmas.specs.Lists.{anyOf}
@@ -26,10 +26,27 @@ rowAt rows k = record {
   fourth = record { 0 = getD rows (k * rowSize + 5) 0 };
 }
 
--- the four sets; the union of all but the first; OUT, the union of all
+-- the four sets
 abbrev pub setsOf : Row → List ℕ
 setsOf r = num (r .first) ∷ num (r .second) ∷ num (r .third) ∷ num (r .fourth) ∷ []
 
+-- the numbers of a row, in that order, and those of rows one after the other
+unfoldable pub rowNumbers : Row → List ℕ
+rowNumbers r = r .kind ∷ r .threshold ∷ setsOf r
+
+unfoldable pub flat : List Row → List ℕ
+flat [] = []
+flat (r ∷ rs) = rowNumbers r ++ flat rs
+
+-- and back: m rows from node k on, and all n
+unfoldable pub rowsFrom : List ℕ → ℕ → ℕ → List Row
+rowsFrom rows k zero = []
+rowsFrom rows k (suc m) = rowAt rows k ∷ rowsFrom rows (suc k) m
+
+unfoldable pub rowsOf : ℕ → List ℕ → List Row
+rowsOf n rows = rowsFrom rows 0 n
+
+-- the union of all sets but the first; OUT, the union of all
 unfoldable pub laterOf : Row → ℕ
 laterOf r = union (num (r .second)) (union (num (r .third)) (num (r .fourth)))
 

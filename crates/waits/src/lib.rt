@@ -15,4 +15,5 @@ pub use rows::edges;
 pub use rows::holds;
 pub use rows::in_of;
 pub use rows::out_of;
+pub use rows::put_row;
 pub use rows::row_at;

@@ -2,11 +2,12 @@
 ghost use mathlib.Core.Path.{_≡_};
 ghost use Prim.Native.Nat.{_+_, _*_, _≤_};
 ghost use lib.ListN.{length};
+ghost use lib.Seq.{sets};
 ghost use Rattle.lemmas.specs.Lists.{anyOf};
 ghost use Rattle.nodes.specs.Words.{num};
 ghost use Rattle.waits.specs.Waits.{inOf};
 ghost use Rattle.waits.specs.Waits.{edges as waits-edges};
-ghost use Rattle.waits.specs.Rows.{rowSize, rowAt, setsOf, laterOf, outOf, liesIn, holdsOf, waitsOf, Shaped};
+ghost use Rattle.waits.specs.Rows.{rowSize, rowAt, rowNumbers, setsOf, laterOf, outOf, liesIn, holdsOf, waitsOf, Shaped};
 use nodes::Node;
 use nodes::Set;
 
@@ -37,6 +38,24 @@ pub fn row_at(rows: &[u64], k: Node) -> Row
         third: Set(rows[at + 4]),
         fourth: Set(rows[at + 5]),
     }
+}
+
+// Stores the row of node k.
+pub fn put_row(rows: &mut [u64], k: Node, row: Row)
+    requires { ⌜ k .0 * rowSize + rowSize ≤ length (now rows) ⌝ }
+    ensures { λ _. ⌜ now (rows .exit) ≡ sets (now (rows .entry)) (k .0 * rowSize) (rowNumbers row) ⌝ }
+{
+    let at = k.0 * ROW;
+    let a = row.first;
+    let b = row.second;
+    let c = row.third;
+    let d = row.fourth;
+    rows[at] = row.kind;
+    rows[at + 1] = row.threshold;
+    rows[at + 2] = a.0;
+    rows[at + 3] = b.0;
+    rows[at + 4] = c.0;
+    rows[at + 5] = d.0;
 }
 
 // The union of all sets but the first.

@@ -12,8 +12,8 @@ use crate::library::SAID;
 use crate::list_words::{disorder, if_in_order, strangeness};
 use crate::questions::{ascends, named};
 use crate::reduction::{everyone, leads_back, satisfied};
-use std::collections::BTreeMap;
 use std::fmt;
+use std::process::ExitCode;
 
 /// The calls that judge rows. Of a bench whose rows are refused it is said only that they are, with 13.
 const JUDGES_OF_ROWS: [&str; 8] = [
@@ -90,8 +90,8 @@ impl CallTally {
         CallTally { counts }
     }
 
-    pub fn missing(&self) -> Vec<&str> {
-        self.counts.missing()
+    pub fn completeness(&self, trial: &str) -> ExitCode {
+        self.counts.completeness(trial)
     }
 
     fn add(&mut self, group: &str, ending: &str) {
@@ -324,17 +324,7 @@ fn of_a_row(name: &str, row: u64) -> String {
 }
 
 impl fmt::Display for CallTally {
-    /// A line for each group.
     fn fmt(&self, f: &mut fmt::Formatter) -> fmt::Result {
-        let mut groups: BTreeMap<&str, Vec<String>> = BTreeMap::new();
-        for (name, count) in self.counts.all() {
-            let (group, ending) = name.split_once(": ").unwrap_or((name, ""));
-            let counted = format!("{ending} ({count})");
-            groups.entry(group).or_default().push(counted);
-        }
-        for (group, counted) in groups {
-            writeln!(f, "{group}: {}", counted.join(", "))?;
-        }
-        Ok(())
+        self.counts.write_groups(f)
     }
 }

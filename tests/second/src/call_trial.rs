@@ -4,7 +4,7 @@ use crate::call_tally::CallTally;
 use crate::drawn_calls;
 use crate::pipe::Program;
 use std::io::{self, BufRead, BufReader, BufWriter, Write};
-use std::process::{ChildStdin, ExitCode};
+use std::process::{ChildStdin, ExitCode, Stdio};
 use std::sync::mpsc::{self, Receiver, Sender};
 use std::thread;
 
@@ -19,7 +19,7 @@ pub struct CallTrial<'a> {
 impl CallTrial<'_> {
     pub fn check(&self) -> io::Result<ExitCode> {
         println!("calls: seed {}, {} calls", self.seed, self.count);
-        let mut child = self.program.start()?;
+        let mut child = self.program.start(Stdio::inherit())?;
         let (Some(stdin), Some(stdout)) = (child.stdin.take(), child.stdout.take()) else {
             return Err(io::Error::other("the driver has no pipes"));
         };
@@ -49,11 +49,7 @@ impl CallTrial<'_> {
     fn conclude(&self, tally: &CallTally) -> ExitCode {
         print!("{tally}");
         println!("calls: all {} calls agree", self.count);
-        let missing = tally.missing();
-        for name in &missing {
-            println!("calls: never came, though it can: {name}");
-        }
-        ExitCode::from(u8::from(!missing.is_empty()))
+        tally.completeness("calls")
     }
 
     /// Asks for every call, and makes it by our own rules. Ends early if nobody compares any more, or nobody listens.

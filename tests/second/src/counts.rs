@@ -1,6 +1,8 @@
 //! How often something came, by name; what is expected is there from the start, so that what never came shows as 0.
 
 use std::collections::BTreeMap;
+use std::fmt;
+use std::process::ExitCode;
 
 pub struct Counts {
     counts: BTreeMap<String, usize>,
@@ -32,8 +34,27 @@ impl Counts {
         self.counts.iter()
     }
 
-    pub fn missing(&self) -> Vec<&str> {
+    /// A line for each group, which a colon ends.
+    pub fn write_groups(&self, f: &mut fmt::Formatter) -> fmt::Result {
+        let mut groups: BTreeMap<&str, Vec<String>> = BTreeMap::new();
+        for (name, count) in &self.counts {
+            let (group, ending) = name.split_once(": ").unwrap_or((name, ""));
+            let counted = format!("{ending} ({count})");
+            groups.entry(group).or_default().push(counted);
+        }
+        for (group, counted) in groups {
+            writeln!(f, "{group}: {}", counted.join(", "))?;
+        }
+        Ok(())
+    }
+
+    /// Says what never came; a failure if there is any.
+    pub fn completeness(&self, trial: &str) -> ExitCode {
         let never = self.counts.iter().filter(|(_, count)| **count == 0);
-        never.map(|(name, _)| name.as_str()).collect()
+        let never: Vec<&String> = never.map(|(name, _)| name).collect();
+        for name in &never {
+            println!("{trial}: never came, though it can: {name}");
+        }
+        ExitCode::from(u8::from(!never.is_empty()))
     }
 }

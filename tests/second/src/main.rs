@@ -1,16 +1,20 @@
 //! The second program: says what the paper's rules make of an input, and holds other programs against it.
 
 use second::call_trial::CallTrial;
+use second::file_trial::FileTrial;
 use second::pipe::Program;
 use second::random::Trial;
-use second::{mornings, replay, vectors};
+use second::{claims, mornings, replay, vectors};
 use std::io::{self, Read, Write};
 use std::process::ExitCode;
 
 const USAGE: &str = "second replay
+second claims
 second vectors DIR PROGRAM [ARGS...]
+second files-vectors DIR PROGRAM [ARGS...]
 second random SEED COUNT PROGRAM [ARGS...]
 second calls SEED COUNT PROGRAM [ARGS...]
+second files SEED COUNT PROGRAM [ARGS...]
 second mornings";
 
 fn main() -> ExitCode {
@@ -24,35 +28,55 @@ fn main() -> ExitCode {
 
 fn obey(words: &[&str]) -> io::Result<ExitCode> {
     match words {
-        ["replay"] => {
-            let mut input = Vec::new();
-            io::stdin().read_to_end(&mut input)?;
-            say(&replay::replay(&input))
+        ["replay"] => say(&replay::replay(&input()?)),
+        ["claims"] => {
+            let outcome = claims::judge(&input()?);
+            io::stderr().write_all(outcome.errors().as_bytes())?;
+            say(&outcome.to_string())
         }
         ["mornings"] => say(&mornings::text()),
         ["vectors", folder, name, arguments @ ..] => {
-            vectors::check(folder, &Program { name, arguments })
+            vectors::SCRIPTS.check(folder, &Program { name, arguments })
         }
-        [trial @ ("random" | "calls"), seed, count, name, arguments @ ..] => {
-            let program = Program { name, arguments };
-            match (*trial, seed.parse(), count.parse()) {
-                ("random", Ok(seed), Ok(count)) => Trial {
-                    seed,
-                    count,
-                    program,
-                }
-                .check(),
-                ("calls", Ok(seed), Ok(count)) => CallTrial {
-                    seed,
-                    count,
-                    program,
-                }
-                .check(),
-                _ => usage(),
-            }
+        ["files-vectors", folder, name, arguments @ ..] => {
+            vectors::FILES.check(folder, &Program { name, arguments })
         }
+        [trial, seed, count, name, arguments @ ..] => match (seed.parse(), count.parse()) {
+            (Ok(seed), Ok(count)) => try_out(trial, seed, count, Program { name, arguments }),
+            _ => usage(),
+        },
         _ => usage(),
     }
+}
+
+fn try_out(trial: &str, seed: u64, count: u64, program: Program) -> io::Result<ExitCode> {
+    match trial {
+        "random" => Trial {
+            seed,
+            count,
+            program,
+        }
+        .check(),
+        "calls" => CallTrial {
+            seed,
+            count,
+            program,
+        }
+        .check(),
+        "files" => FileTrial {
+            seed,
+            count,
+            program,
+        }
+        .check(),
+        _ => usage(),
+    }
+}
+
+fn input() -> io::Result<Vec<u8>> {
+    let mut input = Vec::new();
+    io::stdin().read_to_end(&mut input)?;
+    Ok(input)
 }
 
 fn say(text: &str) -> io::Result<ExitCode> {

@@ -12,22 +12,24 @@ pub struct Program<'a> {
 
 pub struct Output {
     pub bytes: Vec<u8>,
+    pub errors: Vec<u8>,
     status: ExitStatus,
 }
 
 impl Program<'_> {
-    /// Started, with both pipes still to be taken.
-    pub fn start(&self) -> io::Result<Child> {
+    /// Started, with its pipes still to be taken.
+    pub fn start(&self, errors: Stdio) -> io::Result<Child> {
         Command::new(self.name)
             .args(self.arguments)
             .stdin(Stdio::piped())
             .stdout(Stdio::piped())
+            .stderr(errors)
             .spawn()
             .map_err(|error| io::Error::new(error.kind(), format!("{}: {error}", self.name)))
     }
 
     pub fn run(&self, input: &[u8]) -> io::Result<Output> {
-        let mut child = self.start()?;
+        let mut child = self.start(Stdio::piped())?;
         let stdin = child.stdin.take();
         // Writing beside the reading: with both in turn, two full pipes would wait on each other.
         let output = thread::scope(|scope| {
@@ -39,6 +41,7 @@ impl Program<'_> {
         })?;
         Ok(Output {
             bytes: output.stdout,
+            errors: output.stderr,
             status: output.status,
         })
     }
@@ -48,7 +51,13 @@ impl Output {
     /// Where the program wrote something else, or else how it failed.
     pub fn fault(&self, expected: &[u8]) -> Option<String> {
         let failed = (!self.status.success()).then(|| format!("it ended with {}", self.status));
-        first_difference(expected, &self.bytes).or(failed)
+        let fault = first_difference(expected, &self.bytes).or(failed)?;
+        // Its own words may tell why.
+        let errors = match self.errors.as_slice() {
+            [] => String::new(),
+            errors => format!("; standard error: \"{}\"", errors.escape_ascii()),
+        };
+        Some(fault + &errors)
     }
 }
 
@@ -69,12 +78,15 @@ fn lines(bytes: &[u8]) -> Vec<&[u8]> {
     bytes.split_inclusive(|byte| *byte == b'\n').collect()
 }
 
-/// Readable text as it stands; anything else with its odd bytes escaped, so that none is hidden.
+/// Readable lines as they stand; anything else line by line with its odd bytes escaped, so that none is hidden.
 pub fn readable(bytes: &[u8]) -> String {
     let is_plain = |byte: &u8| *byte == b'\n' || (b' '..=b'~').contains(byte);
-    if bytes.iter().all(is_plain) {
+    let is_ended = bytes.is_empty() || bytes.ends_with(b"\n");
+    if is_ended && bytes.iter().all(is_plain) {
         String::from_utf8_lossy(bytes).into_owned()
     } else {
-        format!("(escaped) {}\n", bytes.escape_ascii())
+        let escaped = |line: &&[u8]| format!("{}\n", line.escape_ascii());
+        let escaped: String = lines(bytes).iter().map(escaped).collect();
+        format!("(escaped)\n{escaped}")
     }
 }

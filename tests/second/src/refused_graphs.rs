@@ -9,9 +9,12 @@ use crate::sorts::SMALL;
 /// The numbers in turn; those that are given for several different faults come more often.
 const IN_TURN: [u64; 12] = [1, 2, 3, 4, 5, 6, 7, 8, 5, 6, 7, 6];
 
-/// Draws until our own judgement gives the number: not every drawn graph has a row that can be spoilt so.
 pub fn refused(rng: &mut Prng, turn: u64) -> Rows {
-    let number = IN_TURN[turn as usize % IN_TURN.len()];
+    refused_with(rng, IN_TURN[turn as usize % IN_TURN.len()])
+}
+
+/// Draws until our own judgement gives the number: not every drawn graph has a row that can be spoilt so.
+pub fn refused_with(rng: &mut Prng, number: u64) -> Rows {
     let shapes = if number == 8 { &[Shape::Limit] } else { SMALL };
     loop {
         let mut rows = drawn_rows::accepted(rng, shapes);

@@ -1,6 +1,7 @@
 //! The script that `replay` reads: its numbers, its limits, and how one is written.
 
 use crate::bench::Step;
+use crate::decimal::number;
 use crate::graph::{Rows, NUMBERS_A_ROW};
 
 pub const MOST_BYTES: usize = 1_048_576;
@@ -64,12 +65,4 @@ fn numbers(input: &[u8]) -> Option<Vec<u64>> {
     let is_blank = |byte: &u8| matches!(byte, b' ' | b'\t' | b'\r' | b'\n');
     let words = input.split(is_blank).filter(|word| !word.is_empty());
     words.map(number).collect()
-}
-
-/// Digits only: the standard library's reading would let a plus sign through.
-fn number(word: &[u8]) -> Option<u64> {
-    word.iter().try_fold(0u64, |value, byte| {
-        let digit = byte.is_ascii_digit().then(|| u64::from(byte - b'0'))?;
-        value.checked_mul(10)?.checked_add(digit)
-    })
 }

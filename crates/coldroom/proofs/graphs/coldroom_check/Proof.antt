@@ -3,7 +3,7 @@ use mathlib.Core.Path.{refl, sym, _∙_}
 use borrow.Author.Needs.{needs}
 use Rattle.lemmas.proofs.Cases.{in-arm}
 use Rattle.coldroom.specs.Results.{checked as checked-number}
-use Rattle.coldroom.proofs.Small.{check-small}
+use Rattle.waits.proofs.Small.{check-small}
 use Rattle.coldroom.proofs.graphs.coldroom_check.Statement.{statement}
 use Rattle.coldroom.proofs.graphs.coldroom_check.Tie as tie
 

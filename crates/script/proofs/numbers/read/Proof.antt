@@ -29,6 +29,9 @@ blank-requires c κs = search needs
 end-requires : tie.Need-end-requires Inv-loop μ-loop
 end-requires c κs = omega arith
 
+so-far-requires : tie.Need-so-far-requires Inv-loop μ-loop
+so-far-requires c κs = search needs
+
 grown-requires : tie.Need-grown-requires Inv-loop μ-loop
 grown-requires c κs = search needs
 
@@ -36,10 +39,10 @@ enum-told : tie.Need-enum-told Inv-loop μ-loop
 enum-told c = search needs
 
 same-length : tie.Need-same-length Inv-loop μ-loop
-same-length c = (c .before .before .before .before .before .before .before .loop .inv .1 .long)
+same-length c = (c .before .before .before .before .before .before .before .before .loop .inv .1 .long)
 
 returns : tie.Need-returns Inv-loop μ-loop
-returns c = reading-strange _ _ _ _ _ _ (c .before .before .before .before .before .before .before .loop .inv .1) (c .before .before .before .before .before .before .loop-test .taken) (flag (c .before .before .before .before .blank .ensures) (c .before .before .before .if1 .left)) (sym (c .enum-told .given .1) ∙ (c .before .before .grown .ensures))
+returns c = reading-strange _ _ _ _ _ _ (c .before .before .before .before .before .before .before .before .loop .inv .1) (c .before .before .before .before .before .before .before .loop-test .taken) (flag (c .before .before .before .before .before .blank .ensures) (c .before .before .before .before .if1 .left)) (c .before .before .before .so-far .ensures) (sym (c .enum-told .given .1) ∙ (c .before .before .grown .ensures))
 
 enum-known-next : tie.Need-enum-known-next Inv-loop μ-loop
 enum-known-next c = search needs
@@ -55,7 +58,7 @@ loop-again c = (
   omega arith,
   ⊎-elim
       (λ w. rw (w .5, w .6, w .7) (reading-blank _ _ _ _ _ _ (c .before .before .before .before .loop .inv .1) (c .before .before .before .loop-test .taken) (flag (c .before .blank .ensures) (w .0 .taken)) (w .2 .ensures)))
-      (λ w. rw (w .5, w .6, w .7) (reading-grown _ _ _ _ _ _ (c .before .before .before .before .loop .inv .1) (c .before .before .before .loop-test .taken) (flag (c .before .blank .ensures) (w .0 .left)) _ (sym (w .3 .given .1) ∙ w .1 .ensures)))
+      (λ w. rw (w .6, w .7, w .8) (reading-grown _ _ _ _ _ _ (c .before .before .before .before .loop .inv .1) (c .before .before .before .loop-test .taken) (flag (c .before .blank .ensures) (w .0 .left)) (w .1 .ensures) _ (sym (w .4 .given .1) ∙ w .2 .ensures)))
       (c .if1 .came),
 )
 
@@ -84,6 +87,7 @@ read-spec =
     shared-slice-read-b
     blank-requires
     end-requires
+    so-far-requires
     grown-requires
     enum-told
     same-length

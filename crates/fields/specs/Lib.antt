@@ -1,0 +1,3 @@
+-- Where pieces of a text end, and what the functions answer of one.
+pub mod Ends
+pub mod Answers

@@ -1,0 +1,4 @@
+-- Reading fields, lines and files.
+pub mod Taking
+pub mod Rows
+pub mod Storing

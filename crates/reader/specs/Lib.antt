@@ -1,0 +1,3 @@
+-- Places in a line, and what the functions answer.
+pub mod Places
+pub mod Answers

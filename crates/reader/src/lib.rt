@@ -1,0 +1,12 @@
+// The reader of a file of waits: its fields, its lines, the whole file.
+mod files;
+mod lines;
+mod places;
+
+pub use files::File;
+pub use files::Outcome;
+pub use files::read_file;
+pub use places::NumberAt;
+pub use places::SetAt;
+pub use places::number_at;
+pub use places::set_at;

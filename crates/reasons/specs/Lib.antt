@@ -1,0 +1,2 @@
+-- Why a file of waits is refused, in plain words.
+pub mod Reasons

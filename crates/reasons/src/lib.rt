@@ -1,0 +1,70 @@
+// Why a file of waits is refused, as one line of plain words.
+ghost use mathlib.Core.Path.{_≡_};
+ghost use Rattle.text.specs.Text.{text, write};
+ghost use Rattle.reasons.specs.Reasons.{lineReason, graphReason, reasonOf};
+use crate::finding::line_at;
+use crate::finding::wrong_in;
+use crate::words::number_words;
+use crate::words::place_words;
+use crate::words::wrong_words;
+use reader::Outcome;
+use reader::read_file;
+use report::BYTES;
+use text::bytes;
+use text::number as decimal;
+use waits::Refusal;
+
+mod finding;
+mod words;
+
+// No such line is longer.
+pub const WORDS: usize = 99;
+
+// A line that breaks a rule.
+fn line_reason(file: &[u8], line: usize, room: &mut [u8]) -> usize
+    ensures { λ r. ⌜ text (now (room .exit)) r ≡ write (text (now (room .entry)) 0) (lineReason (now (file .entry)) line) ⌝ }
+{
+    if line < 2 {
+        return bytes(
+            room,
+            0,
+            b"claims: line 1 isn't the header node,kind,threshold,set1,set2,set3,set4\n",
+        );
+    }
+    let part = line_at(file, line - 1);
+    let start = part.start;
+    let end = part.end;
+    let wrong = wrong_in(&file[start..end]);
+    let mut at = bytes(room, 0, b"claims: line ");
+    at = decimal(room, at, line as u64);
+    at = bytes(room, at, b": ");
+    at = wrong_words(room, at, (line - 2) as u64, wrong);
+    bytes(room, at, b"\n")
+}
+
+// A graph that is refused.
+fn graph_reason(r: Refusal, room: &mut [u8]) -> usize
+    ensures { λ e. ⌜ text (now (room .exit)) e ≡ write (text (now (room .entry)) 0) (graphReason r) ⌝ }
+{
+    let row = r.row;
+    let mut at = bytes(room, 0, b"claims: ");
+    at = place_words(room, at, r.number, row.0 as u64);
+    at = number_words(room, at, r.number);
+    bytes(room, at, b"\n")
+}
+
+// Writes why a file is refused, and says where that ends; nothing is written of a file that isn't refused.
+pub fn reasons(file: &[u8], room: &mut [u8]) -> usize
+    ensures { λ r. ⌜ text (now (room .exit)) r ≡ write (text (now (room .entry)) 0) (reasonOf (now (file .entry))) ⌝ }
+{
+    if BYTES < file.len() {
+        return bytes(room, 0, b"claims: the file has more than 65536 bytes\n");
+    }
+    let said = read_file(file);
+    let outcome = said.outcome;
+    match outcome {
+        Outcome::Line(line) => line_reason(file, line, room),
+        Outcome::Refused(r) => graph_reason(r, room),
+        Outcome::Graph => 0,
+    }
+}

@@ -1,0 +1,2 @@
+-- What a file of waits is answered with.
+pub mod Report

@@ -1,0 +1,58 @@
+-- What a file of waits is answered with: the deadlocked nodes of the graph that it says, or the refusal. Assumes nothing.
+use mathlib.Core.Path.{_≡_}
+use mathlib.Core.Bool.{cond}
+use mathlib.Core.Logic.{_↔_}
+use mathlib.Core.List.{List, [], _∷_, _++_, List·Memᴰ}
+use Prim.Native.Nat.{ℕ, _<_}
+use lib.Dec.{ltb}
+use lib.ListN.{length}
+use Rattle.lemmas.specs.Lists.{Ascending}
+use Rattle.waits.specs.Deadlocked.{Deadlocked}
+use Rattle.waits.specs.Rows.{waitsOf}
+use Rattle.waits.specs.Numbers.{checkOf}
+use Rattle.text.specs.Words.{word, decimal}
+use Rattle.text.specs.Text.{text, write}
+use Rattle.lines.specs.Lines.{refusedLine}
+use Rattle.format.specs.Files.{Said, judged, readOf}
+use Rattle.format.specs.Files.Said.{Line, Refused, Graph}
+
+-- a longer file is not looked into
+abbrev pub longest : ℕ
+longest = 65536
+
+pub data Input : Type 0 where
+  TooLong : Input
+  Says : Said → Input
+
+unfoldable pub inputOf : List ℕ → Input
+inputOf bytes = cond (ltb longest (length bytes)) TooLong (Says (readOf bytes))
+
+-- the deadlocked nodes of a graph, ascending
+pub record Stuck (n : ℕ) (rows : List ℕ) (l : List ℕ) : Type 0 where
+  pub ascends : Ascending l
+  pub members : (k : ℕ) → List·Memᴰ k l ↔ ((k < n) × Deadlocked (waitsOf n rows) k)
+
+-- one decimal a line
+unfoldable pub nodeLines : List ℕ → List ℕ
+nodeLines [] = []
+nodeLines (k ∷ l) = decimal k ++ word "\n" ++ nodeLines l
+
+-- the text that answers an input: a refusal gives its number and its line or row, and 0 where it has neither
+unfoldable pub Answers : Input → List ℕ → Type 0
+Answers TooLong t = t ≡ refusedLine 21 0
+Answers (Says (Line line)) t = t ≡ refusedLine 20 line
+Answers (Says (Refused r)) t = t ≡ refusedLine (r .number) (r .row .0)
+Answers (Says (Graph n rows)) t = (l : List ℕ) × Stuck n rows l × (t ≡ nodeLines l)
+
+-- the input that a file of these rows is
+abbrev pub inputIs : ℕ → List ℕ → Input
+inputIs n rows = Says (judged n rows (checkOf n rows))
+
+-- of lent bytes as found and as left, and where the text in them ends: they have a text that answers an input, clipped at their end
+pub record Answered (i : Input) (found left : List ℕ) (end : ℕ) : Type 0 where
+  pub answer : List ℕ
+  pub answers : Answers i answer
+  pub written : text left end ≡ write (text found 0) answer
+
+abbrev pub ReportSays : (bytes found left : List ℕ) → (end : ℕ) → Type 0
+ReportSays bytes found left end = Answered (inputOf bytes) found left end

@@ -1,0 +1,2 @@
+-- What the writer of a file answers, and how it leaves the lent bytes.
+pub mod Answer
