@@ -60,7 +60,7 @@ said-back : (m : Meant) (n : ℕ) (rows : List ℕ) → saidOf m ≡ Graph n row
 said-back (Broken line) n rows e = absurd (let z : _≡_ {A = ℕ} 0 1 = cc in omega arith)
 said-back (Rows rs) n rows e = let q = judged-back (length rs) (flat rs) (checkOf (length rs) (flat rs)) n rows e in (rs, refl, q .0, q .1)
 
-row-then : (line : ℕ) (o : Option Row) (m : Meant) (rs : List Row) → rowThen line o m ≡ Rows rs
+pub row-then : (line : ℕ) (o : Option Row) (m : Meant) (rs : List Row) → rowThen line o m ≡ Rows rs
     → (r : Row) × (rest : List Row) × (o ≡ some r) × (m ≡ Rows rest) × (rs ≡ r ∷ rest)
 row-then line none m rs e = absurd (let z : _≡_ {A = ℕ} 0 1 = cc in omega arith)
 row-then line (some r) (Broken later) rs e = absurd (let z : _≡_ {A = ℕ} 0 1 = cc in omega arith)

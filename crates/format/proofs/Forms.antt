@@ -28,7 +28,7 @@ pub data Form : Type 0 where
   Members : Form
 
 -- how it is read, how it is written, and what can be read again
-abbrev readAs : Form → List ℕ → Option ℕ
+abbrev pub readAs : Form → List ℕ → Option ℕ
 readAs Number = numberOf
 readAs Members = setIn
 

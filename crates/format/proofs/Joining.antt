@@ -55,7 +55,7 @@ module _ (b : ℕ) where
       (true-or-false (eqb x b))
 
   -- ---- and back, where no piece has the byte
-  other : (x : ℕ) → eqb b x ≡ false → eqb x b ≡ false
+  pub other : (x : ℕ) → eqb b x ≡ false → eqb x b ≡ false
   other x e = ne-eqb x b (λ q. eqb-false b x e (sym q))
 
   pub pieces-alone : (w : List ℕ) → anyOf (eqb b) w ≡ false → pieces b w ≡ w ∷ []
@@ -64,7 +64,7 @@ module _ (b : ℕ) where
   pieces-alone (x ∷ w) e =
       pieces-on x w (other x (or-left-false (eqb b x) (anyOf (eqb b) w) e)) ∙ ap (onto x) (pieces-alone w (or-right-false (eqb b x) (anyOf (eqb b) w) e))
 
-  pieces-first : (w l : List ℕ) → anyOf (eqb b) w ≡ false → pieces b (w ++ b ∷ l) ≡ w ∷ pieces b l
+  pub pieces-first : (w l : List ℕ) → anyOf (eqb b) w ≡ false → pieces b (w ++ b ∷ l) ≡ w ∷ pieces b l
   pieces-first [] l e = pieces-here b l (eq-eqb b b refl)
   pieces-first (x ∷ w) l e =
       pieces-on x (w ++ b ∷ l) (other x (or-left-false (eqb b x) (anyOf (eqb b) w) e))
@@ -77,16 +77,16 @@ module _ (b : ℕ) where
   pieces-joined w (v ∷ ws) f = pieces-first w (joined b (v ∷ ws)) (f .0) ∙ ap (λ (r : List (List ℕ)). w ∷ r) (pieces-joined v ws (f .1))
 
 -- ---- at the ends of lines
-end-here : (x y : ℕ) (l : List ℕ) → lineEnd x y ≡ true → linesOf (x ∷ y ∷ l) ≡ [] ∷ linesOf l
+pub end-here : (x y : ℕ) (l : List ℕ) → lineEnd x y ≡ true → linesOf (x ∷ y ∷ l) ≡ [] ∷ linesOf l
 unfolding linesOf
 end-here x y l e = sym (at-true (onto x (linesOf (y ∷ l))) e refl)
 
-end-later : (x y : ℕ) (l : List ℕ) → lineEnd x y ≡ false → linesOf (x ∷ y ∷ l) ≡ onto x (linesOf (y ∷ l))
+pub end-later : (x y : ℕ) (l : List ℕ) → lineEnd x y ≡ false → linesOf (x ∷ y ∷ l) ≡ onto x (linesOf (y ∷ l))
 unfolding linesOf
 end-later x y l e = sym (at-false ([] ∷ linesOf l) e refl)
 
 -- a CR ends no line before another
-before-cr : (x : ℕ) → lineEnd x cr ≡ false
+pub before-cr : (x : ℕ) → lineEnd x cr ≡ false
 unfolding lineEnd
 before-cr x = and-later (eqb x cr) refl
 
@@ -112,11 +112,11 @@ ended-lines (x ∷ y ∷ t) =
     (λ (e : lineEnd x y ≡ false). ap ended (end-later x y rest e) ∙ ended-onto x y rest (linesOf (y ∷ rest)) jh)
     (true-or-false (lineEnd x y))
 
-no-end : (x y : ℕ) → eqb cr x ≡ false → lineEnd x y ≡ false
+pub no-end : (x y : ℕ) → eqb cr x ≡ false → lineEnd x y ≡ false
 unfolding lineEnd
 no-end x y e = and-first (eqb y lf) (ne-eqb x cr (λ q. eqb-false cr x e (sym q)))
 
-lines-first : (w l : List ℕ) → anyOf (eqb cr) w ≡ false → linesOf (w ++ cr ∷ lf ∷ l) ≡ w ∷ linesOf l
+pub lines-first : (w l : List ℕ) → anyOf (eqb cr) w ≡ false → linesOf (w ++ cr ∷ lf ∷ l) ≡ w ∷ linesOf l
 unfolding linesOf lineEnd
 lines-first [] l e = refl
 lines-first (x ∷ []) l e = end-later x cr (lf ∷ l) (before-cr x)

@@ -11,3 +11,12 @@ pub mod Lines
 pub mod Accepted
 pub mod Writing
 pub mod Back
+pub mod Clean
+pub mod Quoting
+pub mod Cutting
+pub mod Records
+pub mod Filing
+pub mod Values
+pub mod ByGrammar
+pub mod Ending
+pub mod FirstBroken

@@ -20,7 +20,7 @@ use Rattle.text.specs.Digits.{isDigit}
 use Rattle.format.specs.Cut.{space, quote, comma, cr, pieces, joined}
 use Rattle.format.specs.Fields.{bare, noDigit, same, wordIn, Fields, next, done}
 use Rattle.format.specs.Files.{fields, headings, words, isHeader, rowOf}
-use Rattle.format.specs.Written.{setText, rowText, rowTexts, headerText}
+use Rattle.format.specs.Written.{rowText, rowTexts, headerText}
 use Rattle.format.proofs.Open.{open-format}
 use Rattle.format.proofs.Choices.{some-if}
 use Rattle.format.proofs.Joining.{Free, joined-pieces, pieces-joined, joined-free, free-joined}
@@ -55,7 +55,7 @@ word-back : (word w : List ℕ) (v : ℕ) → wordIn word w ≡ some v → w ≡
 unfolding wordIn
 word-back word w v e = same-back w word (some-if (same w word) 0 v e .0)
 
-words-back : (ws : List (List ℕ)) (fs : Fields) → words ws fs ≡ some [] → (ps : List (List ℕ)) × (fs ≡ some ps) × (map bare ps ≡ ws)
+pub words-back : (ws : List (List ℕ)) (fs : Fields) → words ws fs ≡ some [] → (ps : List (List ℕ)) × (fs ≡ some ps) × (map bare ps ≡ ws)
 words-back [] fs e = ([], e, refl)
 words-back (w ∷ ws) fs e =
     let q = words-back ws (next (wordIn w) fs .rest) e in
@@ -75,10 +75,10 @@ header-back line e f =
     sym (joined-pieces comma line) ∙ ap (joined comma) all
 
 -- ---- a row: its forms and its values
-abbrev rowForms : List Form
+abbrev pub rowForms : List Form
 rowForms = Number ∷ Number ∷ Number ∷ Members ∷ Members ∷ Members ∷ Members ∷ []
 
-abbrev rowValues : ℕ → Row → List ℕ
+abbrev pub rowValues : ℕ → Row → List ℕ
 rowValues k r = k ∷ r .kind ∷ r .threshold ∷ setsOf r
 
 abbrev pub RowFits : ℕ → Row → Type 0
@@ -120,7 +120,7 @@ row-pieces k r = pieces-joined comma (decimal k) _ (texts-free comma rowForms (r
 pub row-zeroless : (k : ℕ) (r : Row) (field : List ℕ) → List·Memᴰ field (pieces comma (rowText k r)) → Zeroless field
 row-zeroless k r field m = texts-zeroless rowForms (rowValues k r) field (rw (row-pieces k r) at m)
 
--- the row that the code's sets make, and the text of one that was made of numbers
+-- the row that the code's sets make, and the values of one that was made of numbers
 remade : (r : Row) → r ≡ record {
   kind = r .kind;
   threshold = r .threshold;
@@ -138,42 +138,45 @@ remade r = λ i. record {
   fourth = sym (as-num (r .fourth)) i;
 }
 
-made-text : (k kind threshold a b c d : ℕ)
-    → joined comma (texts rowForms (k ∷ kind ∷ threshold ∷ a ∷ b ∷ c ∷ d ∷ []))
-    ≡ rowText k (record { kind = kind; threshold = threshold; first = asSet a; second = asSet b; third = asSet c; fourth = asSet d })
+made-values : (k kind threshold a b c d : ℕ)
+    → k ∷ kind ∷ threshold ∷ a ∷ b ∷ c ∷ d ∷ []
+    ≡ rowValues k (record { kind = kind; threshold = threshold; first = asSet a; second = asSet b; third = asSet c; fourth = asSet d })
+made-values k kind threshold a b c d = λ i. k ∷ kind ∷ threshold ∷ sym (num-as a) i ∷ sym (num-as b) i ∷ sym (num-as c) i ∷ sym (num-as d) i ∷ []
+
+values-text : (k : ℕ) (r : Row) → joined comma (texts rowForms (rowValues k r)) ≡ rowText k r
 unfolding rowText
-made-text k kind threshold a b c d = λ i.
-    joined comma
-    (decimal k
-    ∷ decimal kind
-    ∷ decimal threshold
-    ∷ setText (sym (num-as a) i)
-    ∷ setText (sym (num-as b) i)
-    ∷ setText (sym (num-as c) i)
-    ∷ setText (sym (num-as d) i)
-    ∷ [])
+values-text k r = refl
+
+-- a line whose fields say a row, with none left, is that row
+pub row-made : (k : ℕ) (line : List ℕ) (r : Row) → after rowForms (fields line) ≡ some [] → values rowForms (fields line) ≡ rowValues k r → rowOf k line ≡ some r
+row-made k line r e f = row-with k line ∙ ap₂ (rowWith k) e f ∙ sym (at-true none (eq-eqb k k refl) (ap some (remade r)))
+
+-- and back
+pub row-parts : (k : ℕ) (line : List ℕ) (r : Row) → rowOf k line ≡ some r
+    → (after rowForms (fields line) ≡ some []) × (values rowForms (fields line) ≡ rowValues k r)
+row-parts k line r e =
+    let rest = after rowForms (fields line) in
+    let vs = values rowForms (fields line) in
+    let c = some-if (done rest && eqb (getD vs 0 0) k) _ r (sym (row-with k line) ∙ e) in
+    let node : getD vs 0 0 ≡ k = eqb-true (getD vs 0 0) k (and-right (done rest) (eqb (getD vs 0 0) k) (c .0)) in
+    (done-back rest (and-left (done rest) (eqb (getD vs 0 0) k) (c .0)), made-values _ _ _ _ _ _ _ ∙ ap₂ rowValues node (c .1))
 
 -- Law: a row that is written is read as itself.
 pub row-read : (k : ℕ) (r : Row) → RowFits k r → rowOf k (rowText k r) ≡ some r
 row-read k r h =
     let q = texts-read rowForms (rowValues k r) h in
-    row-with k (rowText k r)
-    ∙ ap (λ (ws : List (List ℕ)). rowWith k (after rowForms (some ws)) (values rowForms (some ws))) (row-pieces k r)
-    ∙ ap₂ (rowWith k) (q .0) (q .1)
-    ∙ sym (at-true none (eq-eqb k k refl) (ap some (remade r)))
+    let ws = row-pieces k r in
+    row-made k (rowText k r) r (ap (λ (x : List (List ℕ)). after rowForms (some x)) ws ∙ q .0) (ap (λ (x : List (List ℕ)). values rowForms (some x)) ws ∙ q .1)
 
 -- Law: a row that was read, without quotes and zeros in front, is written so.
 pub row-back : (k : ℕ) (line : List ℕ) (r : Row) → rowOf k line ≡ some r → anyOf (eqb quote) line ≡ false
     → ((field : List ℕ) → List·Memᴰ field (pieces comma line) → Zeroless field) → line ≡ rowText k r
 row-back k line r e q z =
-    let fs = fields line in
-    let vs = values rowForms fs in
-    let c = some-if (done (after rowForms fs) && eqb (getD vs 0 0) k) _ r (sym (row-with k line) ∙ e) in
-    let b = texts-back rowForms fs (done-back (after rowForms fs) (and-left (done (after rowForms fs)) (eqb (getD vs 0 0) k) (c .0))) in
+    let p = row-parts k line r e in
+    let b = texts-back rowForms (fields line) (p .0) in
     let all : pieces comma line ≡ b .0 = Option·some-injective (pieces comma line) (b .0) (b .1) in
     let written = b .2 (subst (Free (eqb quote)) all (fields-free line q)) (subst (λ (ws : List (List ℕ)). (w : List ℕ) → List·Memᴰ w ws → Zeroless w) all z) in
-    let node : getD vs 0 0 ≡ k = eqb-true (getD vs 0 0) k (and-right (done (after rowForms fs)) (eqb (getD vs 0 0) k) (c .0)) in
     sym (joined-pieces comma line)
     ∙ ap (joined comma) (all ∙ written)
-    ∙ made-text _ _ _ _ _ _ _
-    ∙ ap₂ rowText node (c .1)
+    ∙ ap (λ (xs : List ℕ). joined comma (texts rowForms xs)) (p .1)
+    ∙ values-text k r

@@ -27,15 +27,19 @@ digit-fine : (d : ℕ) → d < 10 → noDigit (digit d) ≡ false
 unfolding noDigit
 digit-fine d h = ap not (digit-is (digit d) (omega arith) (omega arith))
 
-digit-range : (b : ℕ) → noDigit b ≡ false → (48 ≤ b) × (b ≤ 57)
+pub digit-range : (b : ℕ) → noDigit b ≡ false → (48 ≤ b) × (b ≤ 57)
 unfolding noDigit isDigit
 digit-range b e =
     let t = not-false (isDigit b) e in
     (leb-true 48 b (and-left (leb 48 b) (leb b 57) t), leb-true b 57 (and-right (leb 48 b) (leb b 57) t))
 
--- a byte that is no digit is not among digits
+-- a byte that meets a test is not among those that don't
+pub none-meets : (p : ℕ → Bool) (c : ℕ) (w : List ℕ) → p c ≡ true → anyOf p w ≡ false → anyOf (eqb c) w ≡ false
+none-meets p c w e f = any-weaker p (eqb c) w (λ x h. ne-eqb c x (λ q. not-both e (rw q h))) f
+
+-- so one that is no digit is not among digits
 pub digits-free : (c : ℕ) (w : List ℕ) → noDigit c ≡ true → anyOf noDigit w ≡ false → anyOf (eqb c) w ≡ false
-digits-free c w e f = any-weaker noDigit (eqb c) w (λ x h. ne-eqb c x (λ q. not-both e (rw q h))) f
+digits-free = none-meets noDigit
 
 -- ---- what is written has a property, if one digit has it and each digit more keeps it
 module _ (P : ℕ → List ℕ → Type 0) (small : (d : ℕ) → d < 10 → P d (digit d ∷ []))

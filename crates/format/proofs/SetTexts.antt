@@ -71,7 +71,7 @@ set-read s h =
     (ap some (sym (set-members s))))
 
 -- ---- and back
-in-front : (o : Option ℕ) (q : Option (List ℕ)) (ms : List ℕ) → inFront o q ≡ some ms
+pub in-front : (o : Option ℕ) (q : Option (List ℕ)) (ms : List ℕ) → inFront o q ≡ some ms
     → (m : ℕ) × (r : List ℕ) × (o ≡ some m) × (q ≡ some r) × (ms ≡ m ∷ r)
 in-front none q ms e = absurd (Option·none-ne-some ms e)
 in-front (some m) none ms e = absurd (Option·none-ne-some ms e)
@@ -90,7 +90,7 @@ unfolding membersOf joined
 members-back [] ms e z = ap (λ (x : List ℕ). joined space (map decimal x)) (Option·some-injective [] ms e)
 members-back (b ∷ w) ms e z = sym (joined-pieces space (b ∷ w)) ∙ ap (joined space) (numbers-back (pieces space (b ∷ w)) ms e z)
 
-these : (o : Option (List ℕ)) (s : ℕ) → setOfThese o ≡ some s → (ms : List ℕ) × (o ≡ some ms) × (noSet ms ≡ false) × (setOf ms ≡ s)
+pub these : (o : Option (List ℕ)) (s : ℕ) → setOfThese o ≡ some s → (ms : List ℕ) × (o ≡ some ms) × (noSet ms ≡ false) × (setOf ms ≡ s)
 these none s e = absurd (Option·none-ne-some s e)
 these (some ms) s e = let q = some-unless (noSet ms) (setOf ms) s e in (ms, refl, q .0, q .1)
 

@@ -28,9 +28,12 @@ bare-same w e = sym (at-false (take (length w - 2) (drop 1 w)) (not-quoted w e) 
 
 module _ (f : List ℕ → Option ℕ) where
   -- a field that can be read is taken
-  pub next-taken : (w : List ℕ) (ws : List (List ℕ)) (v : ℕ) → anyOf (eqb quote) w ≡ false → f w ≡ some v → next f (some (w ∷ ws)) ≡ taken (some v) ws
+  pub next-read : (w : List ℕ) (ws : List (List ℕ)) (v : ℕ) → f (bare w) ≡ some v → next f (some (w ∷ ws)) ≡ taken (some v) ws
   unfolding next
-  next-taken w ws v q e = ap (λ (o : Option ℕ). taken o ws) (ap f (bare-same w q) ∙ e)
+  next-read w ws v e = ap (λ (o : Option ℕ). taken o ws) e
+
+  pub next-taken : (w : List ℕ) (ws : List (List ℕ)) (v : ℕ) → anyOf (eqb quote) w ≡ false → f w ≡ some v → next f (some (w ∷ ws)) ≡ taken (some v) ws
+  next-taken w ws v q e = next-read w ws v (ap f (bare-same w q) ∙ e)
 
   -- and back
   taken-back : (o : Option ℕ) (xs ws : List (List ℕ)) → taken o xs .rest ≡ some ws → (xs ≡ ws) × (o ≡ some (taken o xs .value))

@@ -4,3 +4,4 @@ pub mod Fields
 pub mod Files
 pub mod Written
 pub mod Undone
+pub mod Grammar

@@ -26,11 +26,11 @@ module _ (line : List ℕ) where
   unfolding left
   left-start = sym (at-true none (le-leb 0 (length line + 1) (omega arith)) refl) ∙ ap some (pieces-start comma line)
 
-  left-here : (from : ℕ) → from ≤ length line + 1 → left line from ≡ some (piecesFrom comma line from)
+  pub left-here : (from : ℕ) → from ≤ length line + 1 → left line from ≡ some (piecesFrom comma line from)
   unfolding left
   left-here from h = sym (at-true none (le-leb from (length line + 1) h) refl)
 
-  left-far : (from : ℕ) → length line + 1 < from → left line from ≡ none
+  pub left-far : (from : ℕ) → length line + 1 < from → left line from ≡ none
   unfolding left
   left-far from h = sym (at-false (some (piecesFrom comma line from)) (lt-leb from (length line + 1) h) refl)
 

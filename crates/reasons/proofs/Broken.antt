@@ -2,20 +2,20 @@
 use mathlib.Core.Path.{_≡_, refl, sym, ap, ap₂, _∙_}
 use mathlib.Core.Bool.{true, false}
 use mathlib.Core.List.{List, [], _∷_}
-use mathlib.Core.Option.{Option, none, some}
+use mathlib.Core.Option.{Option}
 use Prim.Native.Nat.{ℕ, zero, suc, _+_, _-_, _≤_, _<_}
 use native.Mathlib.Numerals.{add-one}
 use native.Mathlib.Omega.{arith}
 use lib.ListN.{length, getD, take, drop}
 use lib.Seq.{drop-cons}
-use borrow.Author.Tests.{le-leb, lt-leb, eq-eqb, ne-eqb}
+use borrow.Author.Tests.{eq-eqb, ne-eqb}
 use Rattle.lemmas.proofs.Cases.{at-true, at-false}
-use Rattle.format.specs.Cut.{comma, linesOf}
+use Rattle.format.specs.Cut.{linesOf}
 use Rattle.format.specs.Fields.{numberOf, setIn, Fields, next}
-use Rattle.fields.specs.Ends.{upToEnd, piecesFrom}
+use Rattle.fields.specs.Ends.{upToEnd}
 use Rattle.fields.proofs.Finding.{lines-next, lines-none}
 use Rattle.reader.specs.Places.{left, TakenAt}
-use Rattle.reader.proofs.Taking.{left-start, done-at}
+use Rattle.reader.proofs.Taking.{left-here, left-far, left-start, done-at}
 use Rattle.reasons.specs.Reasons.{readers, lost, firstWrong, wrongIn}
 
 -- ---- the line: it stands as far ahead of a place as it stands from the start, less the lines between
@@ -76,12 +76,10 @@ module _ (line : List ℕ) where
   read-start = omega (arith, ap (firstWrong readers) (left-start line))
 
   is-lost : (p : ℕ) → length line + 1 < p → lost (left line p) ≡ true
-  unfolding left
-  is-lost p h = ap lost (sym (at-false (some (piecesFrom comma line p)) (lt-leb p (length line + 1) h) refl))
+  is-lost p h = ap lost (left-far line p h)
 
   not-lost : (p : ℕ) → p ≤ length line + 1 → lost (left line p) ≡ false
-  unfolding left
-  not-lost p h = ap lost (sym (at-true none (le-leb p (length line + 1) h) refl))
+  not-lost p h = ap lost (left-here line p h)
 
   module _ (at column : ℕ) (s : Read at column) where
     module _ (after : ℕ) (more : column < 7) (p : Passed line at after (getD readers column setIn)) where
