@@ -1,5 +1,7 @@
 // Reads a file of waits from standard input, and writes who is deadlocked to standard output, or the refusal; and that again in plain
 // words to standard error.
+ghost use mathlib.Core.Path.{_≡_};
+ghost use lib.ListN.{length};
 use reasons::WORDS;
 use reasons::reasons;
 use report::TEXT;
@@ -8,10 +10,24 @@ use report::report;
 // One byte more than a file may have, so that a longer one is seen to be too long.
 const FILE: usize = 65_537;
 
+// Room for any answer.
+fn text_room() -> [u8; TEXT]
+    ensures { λ r. ⌜ 192 ≡ length r ⌝ }
+{
+    [0; TEXT]
+}
+
+// Room for any reason.
+fn words_room() -> [u8; WORDS]
+    ensures { λ r. ⌜ 99 ≡ length r ⌝ }
+{
+    [0; WORDS]
+}
+
 fn main() {
     let mut file = [0u8; FILE];
-    let mut text = [0u8; TEXT];
-    let mut words = [0u8; WORDS];
+    let mut text = text_room();
+    let mut words = words_room();
     let length = io::read_full(0, &mut file);
     let end = report(&file[..length], &mut text);
     io::write_all(1, &text[..end]);

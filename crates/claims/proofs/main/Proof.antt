@@ -6,6 +6,12 @@ use Rattle.text.proofs.Writing.{written-end}
 use Rattle.claims.proofs.main.Statement.{statement}
 use Rattle.claims.proofs.main.Tie as tie
 
+text-room-requires : tie.Need-text-room-requires
+text-room-requires c κs = search needs
+
+words-room-requires : tie.Need-words-room-requires
+words-room-requires c κs = search needs
+
 slice-aggregate-read-full : tie.Need-slice-aggregate-read-full
 slice-aggregate-read-full c = search needs
 
@@ -61,6 +67,8 @@ pub main-spec : {M : Type 1} → statement M
 main-spec =
     tie.close
     (tie.spec
+    text-room-requires
+    words-room-requires
     slice-aggregate-read-full
     read-full-requires
     array-share-prefix-file
