@@ -12,7 +12,7 @@ use Rattle.text.specs.Digits.{isDigit, longer}
 use Rattle.format.specs.Cut.{space, quote, pieces}
 
 -- A field may be quoted: it then means what stands between its quotes. A quote, a comma or a line's end in there would be right in
--- no column, so nothing more is said of them.
+-- no column, so nothing more is said of them; that this is RFC 4180 all the same is shown (`ByGrammar`).
 unfoldable pub quoted : List ℕ → Bool
 quoted w = leb 2 (length w) && (eqb (getD w 0 0) quote && eqb (getD w (length w - 1) 0) quote)
 
@@ -29,7 +29,7 @@ unfoldable pub valueFrom : ℕ → List ℕ → ℕ
 valueFrom v [] = v
 valueFrom v (b ∷ l) = valueFrom (longer v b) l
 
--- A number is one digit or more, and its value has 64 bits at most. Zeros in front add nothing to a value.
+-- A number is one digit or more, and its value has 64 bits at most; zeros in front add nothing to a value. This is none:
 unfoldable pub noNumber : List ℕ → Bool
 noNumber w = eqb (length w) 0 || (anyOf noDigit w || leb (2 ^ 64) (valueFrom 0 w))
 
@@ -53,7 +53,7 @@ unfoldable pub membersOf : List ℕ → Option (List ℕ)
 membersOf [] = some []
 membersOf (b ∷ l) = numbersOf (pieces space (b ∷ l))
 
--- the members ascend, and a set has a place for each
+-- A set's members ascend, each below the next, and a set has a place for each. These don't:
 unfoldable pub noSet : List ℕ → Bool
 noSet ms = not (ascending ms) || anyOf (leb places) ms
 
