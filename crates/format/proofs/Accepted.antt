@@ -17,7 +17,7 @@ use Rattle.nodes.proofs.Inside.{inside-in, inside-lt}
 use Rattle.nodes.proofs.Size.{size-le}
 use Rattle.waits.specs.declared.rows.Row.{Row}
 use Rattle.waits.specs.declared.numbers.Checked.the-variants.{Accepted}
-use Rattle.waits.specs.Rows.{rowAt, setsOf, rowsFrom, rowsOf}
+use Rattle.waits.specs.Rows.{rowAt, setsOf, rowsAt, rowsOf}
 use Rattle.waits.specs.Numbers.{strangeKind, wrongThreshold, checkOf}
 use Rattle.waits.proofs.Condition.{out-set}
 use Rattle.waits.proofs.Table.{Fine, accepted-row, accepted-shaped}
@@ -67,8 +67,8 @@ module _ (n : ℕ) (rows : List ℕ) (ok : checkOf n rows ≡ Accepted) where
         ),
       )
 
-  rows-fit : (m k : ℕ) → k + m ≡ n → RowsFit k (rowsFrom rows k m)
-  unfolding rowsFrom
+  rows-fit : (m k : ℕ) → k + m ≡ n → RowsFit k (rowsAt rows k m)
+  unfolding rowsAt
   rows-fit zero k e = tt
   rows-fit (suc m) k e = (row-fits k (omega arith), rows-fit m (suc k) (omega arith))
 

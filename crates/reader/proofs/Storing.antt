@@ -31,7 +31,7 @@ use Rattle.reader.specs.declared.lines.RowRead.the-variants.{NoRow, IsRo
 use Rattle.reader.specs.declared.files.Lines.{Lines}
 use Rattle.reader.specs.declared.files.Lines.the-variants.{Broken as Lines·Broken, Rows as Lines·Rows}
 use Rattle.reader.specs.declared.files.Outcome.the-variants.{Graph as Outcome·Graph}
-use Rattle.reader.specs.Answers.{rowSaid, numbers, LinesSay, zeros, fileSaid, checkedAs, judgedOf}
+use Rattle.reader.specs.Answers.{rowSaid, numbers, LinesSay, zeros, fileSaid, checkedAs, graphJudged}
 
 -- ---- what an answer tells of a line
 no-row : {A : Type 0} {r : Row} → NoRow ≡ IsRow r → A
@@ -157,8 +157,8 @@ one-said n rows h =
 
 -- a graph of n rows, with their numbers stored as far as there are places
 module _ (n : ℕ) (rows stored : List ℕ) (count : length rows ≡ n * rowSize) (front : stored ≡ sets zeros 0 rows) where
-  many : places < n → judgedOf n stored ≡ fileSaid (judged n rows (checkOf n rows))
-  unfolding judgedOf fileSaid
+  many : places < n → graphJudged n stored ≡ fileSaid (judged n rows (checkOf n rows))
+  unfolding graphJudged fileSaid
   many h = sym (at-true _ (lt-ltb places n h) refl) ∙ ap (λ (c : Checked). fileSaid (judged n rows c)) (one-said n rows h)
 
   checked-said : (c : Checked) → checkedAs n stored c ≡ fileSaid (judged n rows c)
@@ -166,8 +166,8 @@ module _ (n : ℕ) (rows stored : List ℕ) (count : length rows ≡ n * rowSize
   checked-said (Checked·Refused r) = refl
   checked-said Accepted = λ i. record { outcome = Outcome·Graph; nodes = n; rows = front i }
 
-  few : n ≤ places → judgedOf n stored ≡ fileSaid (judged n rows (checkOf n rows))
-  unfolding judgedOf
+  few : n ≤ places → graphJudged n stored ≡ fileSaid (judged n rows (checkOf n rows))
+  unfolding graphJudged
   few h =
       sym (at-false _ (le-ltb places n h) refl)
       ∙ ap (λ (l : List ℕ). checkedAs n stored (checkOf n l)) (ap (take (n * rowSize)) front ∙ taken)
@@ -176,7 +176,7 @@ module _ (n : ℕ) (rows stored : List ℕ) (count : length rows ≡ n * rowSize
       taken : take (n * rowSize) (sets zeros 0 rows) ≡ rows
       taken = front-taken zeros rows (sym count) (omega (arith, length-replicate {A = ℕ} numbers 0))
 
-  judged-said : judgedOf n stored ≡ fileSaid (judged n rows (checkOf n rows))
+  judged-said : graphJudged n stored ≡ fileSaid (judged n rows (checkOf n rows))
   judged-said =
       ⊎-elim
       (λ (t : ltb places n ≡ true). many (ltb-true places n t))
@@ -189,7 +189,7 @@ module _ (file left : List ℕ) {a : Lines} (s : LinesSay (meantBy file) zeros l
   unfolding readOf LinesSay
   file-broken line e = ap (λ (m : Meant). fileSaid (saidOf m)) (sym (subst (λ (x : Lines). LinesSay (meantBy file) zeros left x) e s))
 
-  pub file-rows : (n : ℕ) → a ≡ Lines·Rows n → judgedOf n left ≡ fileSaid (readOf file)
+  pub file-rows : (n : ℕ) → a ≡ Lines·Rows n → graphJudged n left ≡ fileSaid (readOf file)
   unfolding readOf LinesSay
   file-rows n e =
       let t = subst (λ (x : Lines). LinesSay (meantBy file) zeros left x) e s in

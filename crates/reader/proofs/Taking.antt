@@ -18,7 +18,7 @@ use Rattle.format.specs.Files.{fields}
 use Rattle.fields.specs.Ends.{upTo, piecesFrom}
 use Rattle.fields.proofs.Finding.{pieces-start, pieces-none, pieces-next}
 use Rattle.reader.specs.declared.places.FieldAt.{FieldAt}
-use Rattle.reader.specs.Places.{left, FieldSays, TakenAt}
+use Rattle.reader.specs.Places.{left, FieldFound, TakenAt}
 
 -- ---- places
 module _ (line : List ℕ) where
@@ -76,10 +76,10 @@ module _ (line : List ℕ) (from end : ℕ) (h : from ≤ length line) (found : 
       ∙ sym (take-take (e - s) (n - s) (drop s (drop from line)) (omega arith))
       ∙ ap (take (e - s)) (sym (drop-take s n (drop from line) (omega arith)))
 
-  pub field-says : (s e : ℕ) → s ≤ e → e ≤ length (take (end - from) (drop from line))
+  pub field-found : (s e : ℕ) → s ≤ e → e ≤ length (take (end - from) (drop from line))
       → take (e - s) (drop s (take (end - from) (drop from line))) ≡ bare (take (end - from) (drop from line))
-      → FieldSays line from (record { start = from + s; end = from + e; next = end + 1 })
-  field-says s e o i t = record {
+      → FieldFound line from (record { start = from + s; end = from + e; next = end + 1 })
+  field-found s e o i t = record {
     raw = take (end - from) (drop from line);
     others = piecesFrom comma line (end + 1);
     here = left-here line from (omega arith) ∙ ap some (pieces-next comma line from end h found);
@@ -107,7 +107,7 @@ module _ (f : List ℕ → Option ℕ) (line : List ℕ) (from : ℕ) where
       (λ (t : leb from (length line + 1) ≡ false). ap (next f) (left-far line from (leb-false from (length line + 1) t)))
       (true-or-false (leb from (length line + 1))))
 
-  module _ {r : FieldAt} (s : FieldSays line from r) where
+  module _ {r : FieldAt} (s : FieldFound line from r) where
     so : {o : Option ℕ} → f (take (r .end - r .start) (drop (r .start) line)) ≡ o → next f (left line from) ≡ taken o (s .others)
     unfolding next
     so e = ap (next f) (s .here) ∙ ap (λ (o : Option ℕ). taken o (s .others)) (ap f (sym (s .text)) ∙ e)

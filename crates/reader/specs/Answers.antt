@@ -55,8 +55,8 @@ abbrev pub checkedAs : ℕ → List ℕ → Checked → File
 checkedAs n stored (Checked·Refused r) = noGraph (Outcome·Refused r)
 checkedAs n stored Accepted = record { outcome = Outcome·Graph; nodes = n; rows = stored }
 
-unfoldable pub judgedOf : ℕ → List ℕ → File
-judgedOf n stored =
+unfoldable pub graphJudged : ℕ → List ℕ → File
+graphJudged n stored =
     cond (ltb places n)
     (noGraph (Outcome·Refused (record { number = 1; row = record { 0 = 0 } })))
     (checkedAs n stored (checkOf n (take (n * rowSize) stored)))

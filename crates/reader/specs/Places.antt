@@ -16,7 +16,7 @@ unfoldable pub left : List ℕ → ℕ → Fields
 left line from = cond (leb from (length line + 1)) (some (piecesFrom comma line from)) none
 
 -- the next field as it stands, the fields after it, and the part of the line that it is without its quotes
-pub record FieldSays (line : List ℕ) (from : ℕ) (r : FieldAt) : Type 0 where
+pub record FieldFound (line : List ℕ) (from : ℕ) (r : FieldAt) : Type 0 where
   pub raw : List ℕ
   pub others : List (List ℕ)
   pub here : left line from ≡ some (raw ∷ others)

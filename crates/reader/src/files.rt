@@ -6,7 +6,7 @@ ghost use lib.Seq.{sets};
 ghost use Rattle.waits.specs.Rows.{rowSize, rowNumbers};
 ghost use Rattle.format.specs.Cut.{linesOf};
 ghost use Rattle.format.specs.Files.{rowsFrom, meantBy, readOf};
-ghost use Rattle.reader.specs.Answers.{numbers, LinesSay, noGraph, judgedOf, fileSaid};
+ghost use Rattle.reader.specs.Answers.{numbers, LinesSay, noGraph, graphJudged, fileSaid};
 use crate::lines::RowRead;
 use crate::lines::header;
 use crate::lines::row;
@@ -102,7 +102,7 @@ fn no_graph(outcome: Outcome) -> File
 
 // Judges the graph of so many rows, of which those that a graph can have are stored.
 fn judge(nodes: usize, rows: [u64; NUMBERS]) -> File
-    ensures { λ r. ⌜ r ≡ judgedOf nodes rows ⌝ }
+    ensures { λ r. ⌜ r ≡ graphJudged nodes rows ⌝ }
 {
     if PLACES < nodes {
         let refused = Outcome::Refused(Refusal {

@@ -5,7 +5,7 @@ ghost use Prim.Native.Nat.{_≤_};
 ghost use lib.ListN.{length};
 ghost use Rattle.nodes.specs.Words.{num};
 ghost use Rattle.format.specs.Fields.{numberOf, setIn, wordIn, next};
-ghost use Rattle.reader.specs.Places.{left, FieldSays, TakenAt};
+ghost use Rattle.reader.specs.Places.{left, FieldFound, TakenAt};
 use fields::Gathered;
 use fields::Numbered;
 use fields::bare;
@@ -34,7 +34,7 @@ pub struct SetAt {
 
 fn field_at(line: &[u8], from: usize) -> FieldAt
     requires { ⌜ from ≤ length (now line) ⌝ }
-    ensures { λ r. ⌜ FieldSays (now (line .entry)) from r ⌝ }
+    ensures { λ r. ⌜ FieldFound (now (line .entry)) from r ⌝ }
 {
     let end = find(line, from, b',');
     let part = bare(&line[from..end]);

@@ -24,7 +24,7 @@ use Rattle.lines.proofs.Lengths.{joined}
 use Rattle.report.specs.Report.{longest, inputOf}
 use Rattle.report.proofs.Small.{SmallSaid, read-small}
 use Rattle.report.specs.Report.Input.{TooLong, Says}
-use Rattle.reasons.specs.Reasons.{columnWords, wrongIn, wrongWords, lineReason, wordsIn, numbered, numberWords, placeWords, graphReason, reasonFor, reasonOf}
+use Rattle.reasons.specs.Reasons.{columnWords, wrongIn, wrongWords, lineReason, wordsIn, numberTable, numberWords, placeWords, graphReason, reasonFor, reasonOf}
 
 abbrev AtMost : ℕ → List ℕ → Type 0
 AtMost n l = length l ≤ n
@@ -76,7 +76,7 @@ in-length (e ∷ l) last number s h = both-branches (AtMost 79) (eqb number (e .
 number-length : (number : ℕ) → AtMost 79 (numberWords number)
 unfolding numberWords word
 number-length number =
-    in-length numbered "there are more than 512 edges" number
+    in-length numberTable "there are more than 512 edges" number
     (omega arith, (omega arith, (omega arith, (omega arith, (omega arith, (omega arith, (omega arith, tt)))))))
     (omega arith)
 

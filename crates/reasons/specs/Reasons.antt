@@ -68,8 +68,8 @@ abbrev pub wordsIn : List (ℕ × String) → (last : String) → ℕ → List �
 wordsIn [] last number = word last
 wordsIn (e ∷ l) last number = cond (eqb number (e .0)) (word (e .1)) (wordsIn l last number)
 
-abbrev pub numbered : List (ℕ × String)
-numbered =
+abbrev pub numberTable : List (ℕ × String)
+numberTable =
     (1, "there is no node, or there are more than 64")
     ∷ (2, "the kind isn't 0, 1 or 2")
     ∷ (3, "a set names something that is no node")
@@ -81,7 +81,7 @@ numbered =
 
 -- A graph is refused with 1 to 8, so the last words are those of 8.
 unfoldable pub numberWords : ℕ → List ℕ
-numberWords number = wordsIn numbered "there are more than 512 edges" number
+numberWords number = wordsIn numberTable "there are more than 512 edges" number
 
 -- 2 to 7 are of a row
 unfoldable pub placeWords : (number row : ℕ) → List ℕ

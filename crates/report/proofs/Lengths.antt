@@ -23,7 +23,7 @@ use Rattle.text.proofs.Writing.{write-fits}
 use Rattle.lines.proofs.Lengths.{refused-length}
 use Rattle.format.specs.Files.{Said, readOf}
 use Rattle.format.specs.Files.Said.{Line, Refused, Graph}
-use Rattle.report.specs.Report.{longest, inputOf, nodeLines, Answers, ReportSays}
+use Rattle.report.specs.Report.{longest, inputOf, nodeLines, Answers, Answered}
 use Rattle.report.specs.Report.Input.{TooLong, Says}
 use Rattle.report.proofs.Small.{SmallSaid, read-small}
 
@@ -73,6 +73,6 @@ answer-short bytes t = by (ltb longest (length bytes)) refl
     by false e a = said-short (readOf bytes) t (read-small bytes (ltb-false longest (length bytes) e)) a
 
 -- Theorem: in room for so much nothing is clipped: the whole answer stands in front, and the bytes after it are as found.
-pub answer-whole : (bytes found left : List ℕ) (end : ℕ) (s : ReportSays bytes found left end) → longestAnswer ≤ length found
+pub answer-whole : (bytes found left : List ℕ) (end : ℕ) (s : Answered (inputOf bytes) found left end) → longestAnswer ≤ length found
     → text left end ≡ text (s .answer ++ drop (length (s .answer)) found) (length (s .answer))
 answer-whole bytes found left end s h = s .written ∙ write-fits found (s .answer) (omega (arith, answer-short bytes (s .answer) (s .answers)))

@@ -32,7 +32,7 @@ use Rattle.reader.specs.declared.files.Outcome.{Outcome}
 use Rattle.reader.specs.declared.files.Outcome.the-variants.{Graph as Outcome·Graph, Line as Outcome·Line, Refused as Outcome·Refused}
 use Rattle.reader.specs.declared.files.File.{File}
 use Rattle.reader.specs.Answers.{numbers, zeros, noGraph, fileSaid}
-use Rattle.report.specs.Report.{longest, Input, inputOf, Stuck, nodeLines, Answers, inputIs, Answered, ReportSays}
+use Rattle.report.specs.Report.{longest, Input, inputOf, Stuck, nodeLines, Answers, inputIs, Answered}
 use Rattle.report.specs.Report.Input.{TooLong, Says}
 
 -- ---- a graph
@@ -101,10 +101,10 @@ of-graph (Graph n rows) e = (n, rows, refl)
 
 -- ---- a file
 module _ (bytes found left : List ℕ) (end : ℕ) where
-  answered : {i : Input} → i ≡ inputOf bytes → Answered i found left end → ReportSays bytes found left end
+  answered : {i : Input} → i ≡ inputOf bytes → Answered i found left end → Answered (inputOf bytes) found left end
   answered e a = subst (λ (i : Input). Answered i found left end) e a
 
-  pub too-long : longest < length bytes → text left end ≡ write (text found 0) (refusedLine 21 0) → ReportSays bytes found left end
+  pub too-long : longest < length bytes → text left end ≡ write (text found 0) (refusedLine 21 0) → Answered (inputOf bytes) found left end
   unfolding inputOf Answers
   too-long h w = answered (at-true _ (lt-ltb _ _ h) refl) (record { answer = refusedLine 21 0; answers = refl; written = w })
 
@@ -116,12 +116,12 @@ module _ (bytes found left : List ℕ) (end : ℕ) where
     outcome : {o : Outcome} → f .outcome ≡ o → fileSaid (readOf bytes) .outcome ≡ o
     outcome e = sym (ap (λ (x : File). x .outcome) read) ∙ e
 
-    pub line-broken : {line : ℕ} → f .outcome ≡ Outcome·Line line → text left end ≡ write (text found 0) (refusedLine 20 line) → ReportSays bytes found left end
+    pub line-broken : {line : ℕ} → f .outcome ≡ Outcome·Line line → text left end ≡ write (text found 0) (refusedLine 20 line) → Answered (inputOf bytes) found left end
     unfolding Answers
     line-broken {line} e w = answered (says (of-line _ line (outcome e))) (record { answer = refusedLine 20 line; answers = refl; written = w })
 
     pub file-refused : {r : Refusal} → f .outcome ≡ Outcome·Refused r → text left end ≡ write (text found 0) (refusedLine (r .number) (r .row .0))
-        → ReportSays bytes found left end
+        → Answered (inputOf bytes) found left end
     unfolding Answers
     file-refused {r} e w = answered (says (of-refused _ r (outcome e))) (record { answer = refusedLine (r .number) (r .row .0); answers = refl; written = w })
 
@@ -159,7 +159,7 @@ module _ (bytes : List ℕ) {f : File} (read : f ≡ fileSaid (readOf bytes)) (e
       ∙ front-taken zeros (graph .1) all (omega (arith, all, few-nodes, length-replicate {A = ℕ} numbers 0))
 
   pub file-graph : (found left : List ℕ) (end : ℕ) → length bytes ≤ longest
-      → Answered (inputIs (f .nodes) (take (f .nodes * rowSize) (f .rows))) found left end → ReportSays bytes found left end
+      → Answered (inputIs (f .nodes) (take (f .nodes * rowSize) (f .rows))) found left end → Answered (inputOf bytes) found left end
   file-graph found left end h =
       answered bytes found left end
       (ap₂ inputIs count rows-taken

@@ -6,7 +6,7 @@ use Rattle.lemmas.proofs.Ascending.{ascending-unique}
 use Rattle.lemmas.proofs.Cases.{only-one}
 use Rattle.text.specs.Text.{Text, text, write}
 use Rattle.format.specs.Files.Said.{Line, Refused, Graph}
-use Rattle.report.specs.Report.{Input, inputOf, Stuck, nodeLines, Answers, ReportSays}
+use Rattle.report.specs.Report.{Input, inputOf, Stuck, nodeLines, Answers, Answered}
 use Rattle.report.specs.Report.Input.{TooLong, Says}
 
 -- the deadlocked nodes make one list
@@ -23,7 +23,7 @@ one-answer (Says (Refused r)) s t p q = only-one p q
 one-answer (Says (Graph n rows)) s t (l, a, e) (m, b, f) = e ∙ ap nodeLines (one-list n rows l m a b) ∙ sym f
 
 -- Law: of what is written, and of where it ends.
-pub one-result : (bytes found left right : List ℕ) (x y : ℕ) → ReportSays bytes found left x → ReportSays bytes found right y → (left ≡ right) × (x ≡ y)
+pub one-result : (bytes found left right : List ℕ) (x y : ℕ) → Answered (inputOf bytes) found left x → Answered (inputOf bytes) found right y → (left ≡ right) × (x ≡ y)
 one-result bytes found left right x y p q =
     let same : p .answer ≡ q .answer = one-answer (inputOf bytes) (p .answer) (q .answer) (p .answers) (q .answers) in
     let all : text left x ≡ text right y = p .written ∙ ap (write (text found 0)) same ∙ sym (q .written) in

@@ -53,6 +53,3 @@ pub record Answered (i : Input) (found left : List ℕ) (end : ℕ) : Type 0 whe
   pub answer : List ℕ
   pub answers : Answers i answer
   pub written : text left end ≡ write (text found 0) answer
-
-abbrev pub ReportSays : (bytes found left : List ℕ) → (end : ℕ) → Type 0
-ReportSays bytes found left end = Answered (inputOf bytes) found left end

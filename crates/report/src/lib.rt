@@ -4,7 +4,7 @@ ghost use Rattle.nodes.specs.Sets.{members};
 ghost use Rattle.nodes.specs.Words.{num};
 ghost use Rattle.text.specs.Text.{text, write};
 ghost use Rattle.lines.specs.Lines.{refusedLine};
-ghost use Rattle.report.specs.Report.{nodeLines, inputIs, Answered, ReportSays};
+ghost use Rattle.report.specs.Report.{inputOf, nodeLines, inputIs, Answered};
 use deadlock::Found;
 use deadlock::all_deadlocked;
 use lines::refused;
@@ -61,7 +61,7 @@ fn graph(room: &mut [u8], nodes: usize, rows: &[u64]) -> usize
 
 // Writes the text that answers a file, as far as there is room, and says where it ends.
 pub fn report(file: &[u8], room: &mut [u8]) -> usize
-    ensures { λ r. ⌜ ReportSays (now (file .entry)) (now (room .entry)) (now (room .exit)) r ⌝ }
+    ensures { λ r. ⌜ Answered (inputOf (now (file .entry))) (now (room .entry)) (now (room .exit)) r ⌝ }
 {
     if BYTES < file.len() {
         return refused(room, 0, 21, 0);

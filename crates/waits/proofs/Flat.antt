@@ -8,7 +8,7 @@ use lib.ListN.{length, getD, drop, drop-of-length-le, length-append}
 use lib.Seq.{drop-cons, getD-append-add}
 use Rattle.nodes.specs.Words.{num}
 use Rattle.waits.specs.declared.rows.Row.{Row}
-use Rattle.waits.specs.Rows.{rowSize, rowAt, rowNumbers, flat, rowsFrom, rowsOf}
+use Rattle.waits.specs.Rows.{rowSize, rowAt, rowNumbers, flat, rowsAt, rowsOf}
 
 pub flat-length : (rs : List Row) → length (flat rs) ≡ length rs * rowSize
 unfolding flat rowNumbers
@@ -49,8 +49,8 @@ module _ (rows : List ℕ) (k : ℕ) (h : k * rowSize + rowSize ≤ length rows)
       next : (i : ℕ) {j : ℕ} → suc i ≡ j → i < length rows → drop i rows ≡ getD rows i 0 ∷ drop j rows
       next i e l = drop-cons rows i 0 l ∙ ap (λ (x : ℕ). getD rows i 0 ∷ drop x rows) e
 
-flat-from : (rows : List ℕ) (m k : ℕ) → length rows ≡ (k + m) * rowSize → flat (rowsFrom rows k m) ≡ drop (k * rowSize) rows
-unfolding flat rowsFrom
+flat-from : (rows : List ℕ) (m k : ℕ) → length rows ≡ (k + m) * rowSize → flat (rowsAt rows k m) ≡ drop (k * rowSize) rows
+unfolding flat rowsAt
 flat-from rows zero k e = sym (drop-of-length-le rows {i = k * rowSize} (omega arith))
 flat-from rows (suc m) k e =
     ap (λ (x : List ℕ). rowNumbers (rowAt rows k) ++ x) (flat-from rows m (suc k) (omega arith))
@@ -79,13 +79,13 @@ row-length : (r : Row) → length (rowNumbers r) ≡ rowSize
 unfolding rowNumbers
 row-length r = refl
 
-rows-from : (front : List ℕ) (rs : List Row) (k : ℕ) → length front ≡ k * rowSize → rowsFrom (front ++ flat rs) k (length rs) ≡ rs
-unfolding rowsFrom flat
+rows-from : (front : List ℕ) (rs : List Row) (k : ℕ) → length front ≡ k * rowSize → rowsAt (front ++ flat rs) k (length rs) ≡ rs
+unfolding rowsAt flat
 rows-from front [] k e = refl
 rows-from front (r ∷ rs) k e =
     ap₂ (λ (x : Row) (xs : List Row). x ∷ xs)
     (row-back front r (flat rs) k e)
-    (ap (λ (l : List ℕ). rowsFrom l (suc k) (length rs)) (sym (append-assoc front (rowNumbers r) (flat rs)))
+    (ap (λ (l : List ℕ). rowsAt l (suc k) (length rs)) (sym (append-assoc front (rowNumbers r) (flat rs)))
     ∙ rows-from (front ++ rowNumbers r) rs (suc k) (omega (arith, length-append front (rowNumbers r), row-length r)))
 
 pub rows-flat : (rs : List Row) → rowsOf (length rs) (flat rs) ≡ rs

@@ -39,12 +39,12 @@ flat [] = []
 flat (r ∷ rs) = rowNumbers r ++ flat rs
 
 -- and back: m rows from node k on, and all n
-unfoldable pub rowsFrom : List ℕ → ℕ → ℕ → List Row
-rowsFrom rows k zero = []
-rowsFrom rows k (suc m) = rowAt rows k ∷ rowsFrom rows (suc k) m
+unfoldable pub rowsAt : List ℕ → ℕ → ℕ → List Row
+rowsAt rows k zero = []
+rowsAt rows k (suc m) = rowAt rows k ∷ rowsAt rows (suc k) m
 
 unfoldable pub rowsOf : ℕ → List ℕ → List Row
-rowsOf n rows = rowsFrom rows 0 n
+rowsOf n rows = rowsAt rows 0 n
 
 -- the union of all sets but the first; OUT, the union of all
 unfoldable pub laterOf : Row → ℕ

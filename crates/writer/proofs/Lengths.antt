@@ -17,7 +17,7 @@ use Rattle.nodes.proofs.Size.{size-members, size-le, size-mono}
 use Rattle.waits.specs.declared.rows.Row.{Row}
 use Rattle.waits.specs.declared.numbers.Checked.the-variants.{Accepted}
 use Rattle.waits.specs.Waits.{Waits, edgesTo, edges}
-use Rattle.waits.specs.Rows.{rowAt, setsOf, outOf, rowsFrom, rowsOf, waitsOf}
+use Rattle.waits.specs.Rows.{rowAt, setsOf, outOf, rowsAt, rowsOf, waitsOf}
 use Rattle.waits.specs.Numbers.{mostEdges, line, strangeKind, wrongThreshold, manyEdges, rowsLines, checkOf}
 use Rattle.waits.proofs.Table.{check-accepted, accepted-shaped, accepted-row}
 use Rattle.waits.proofs.Condition.{out-set}
@@ -117,12 +117,12 @@ module _ (n : ℕ) (rows : List ℕ) (ok : checkOf n rows ≡ Accepted) where
       let threshold = threshold-most r (fine .threshold) in
       row-length k r (λ j i. let l = law .closed k j h i in omega (arith, few)) (omega (arith, few)) (omega arith) (omega (arith, few))
 
-  lines-length : (m k : ℕ) → k + m ≤ n → length (ended (rowTexts k (rowsFrom rows k m))) + 12 * edgesTo w k ≤ 14 * m + 12 * edgesTo w (k + m)
-  unfolding ended rowTexts rowsFrom edgesTo
+  lines-length : (m k : ℕ) → k + m ≤ n → length (ended (rowTexts k (rowsAt rows k m))) + 12 * edgesTo w k ≤ 14 * m + 12 * edgesTo w (k + m)
+  unfolding ended rowTexts rowsAt edgesTo
   lines-length zero k h = omega (arith, ap (edgesTo w) (let e : k + 0 ≡ k = omega arith in e))
   lines-length (suc m) k h =
       let this : List ℕ = rowText k (rowAt rows k) in
-      let others : List ℕ = ended (rowTexts (suc k) (rowsFrom rows (suc k) m)) in
+      let others : List ℕ = ended (rowTexts (suc k) (rowsAt rows (suc k) m)) in
       omega (
         arith,
         length-append this (cr ∷ lf ∷ others),
@@ -142,7 +142,7 @@ module _ (n : ℕ) (rows : List ℕ) (ok : checkOf n rows ≡ Accepted) where
   file-short =
       omega (
         arith,
-        length-append headerText (cr ∷ lf ∷ ended (rowTexts 0 (rowsFrom rows 0 n))),
+        length-append headerText (cr ∷ lf ∷ ended (rowTexts 0 (rowsAt rows 0 n))),
         lines-length n 0 (omega arith),
         ap (edgesTo w) (let e : 0 + n ≡ n = omega arith in e),
         edges-few,

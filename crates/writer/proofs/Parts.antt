@@ -10,7 +10,7 @@ use Rattle.nodes.specs.Sets.{with, minus, members}
 use Rattle.nodes.specs.Words.{firstOf}
 use Rattle.nodes.proofs.First.{members-ended, first-rest}
 use Rattle.waits.specs.declared.rows.Row.{Row}
-use Rattle.waits.specs.Rows.{rowAt, rowsFrom, rowsOf}
+use Rattle.waits.specs.Rows.{rowAt, rowsAt, rowsOf}
 use Rattle.text.specs.Words.{decimal}
 use Rattle.text.specs.Text.{Text, write}
 use Rattle.text.proofs.Writing.{write-both}
@@ -49,7 +49,7 @@ module _ (s : ℕ) (none : Nothing ≡ firstOf (members s)) (a : Text) where
 
 -- ---- what is left of a file from row k on: the end of the line before it, and then the rows
 abbrev pub rowsLeft : ℕ → List ℕ → ℕ → List ℕ
-rowsLeft n rows k = cr ∷ lf ∷ ended (rowTexts k (rowsFrom rows k (n - k)))
+rowsLeft n rows k = cr ∷ lf ∷ ended (rowTexts k (rowsAt rows k (n - k)))
 
 module _ (n : ℕ) (rows : List ℕ) where
   pub header-written : (a : Text) {b : Text} → b ≡ write a headerText → write b (rowsLeft n rows 0) ≡ write a (fileOf n rows)
@@ -57,21 +57,21 @@ module _ (n : ℕ) (rows : List ℕ) where
   header-written a h =
       let e : n - 0 ≡ n = omega arith in
       write-both a headerText (rowsLeft n rows 0) h refl
-      ∙ ap (λ (m : ℕ). write a (ended (headerText ∷ rowTexts 0 (rowsFrom rows 0 m)))) e
+      ∙ ap (λ (m : ℕ). write a (ended (headerText ∷ rowTexts 0 (rowsAt rows 0 m)))) e
 
   module _ (k : ℕ) (a : Text) where
     pub row-written : k < n → {b c : Text} {r : Row} → r ≡ rowAt rows k → b ≡ write a (cr ∷ lf ∷ []) → c ≡ write b (rowText k r)
         → write c (rowsLeft n rows (k + 1)) ≡ write a (rowsLeft n rows k)
-    unfolding ended rowTexts rowsFrom
+    unfolding ended rowTexts rowsAt
     row-written l {r = r} f h i =
         let e : n - k ≡ suc (n - suc k) = omega arith in
         write-both a (cr ∷ lf ∷ rowText k r) (rowsLeft n rows (k + 1)) (write-both a (cr ∷ lf ∷ []) (rowText k r) h i) refl
         ∙ ap (λ (j : ℕ). write a (cr ∷ lf ∷ rowText k r ++ rowsLeft n rows j)) (add-one k)
         ∙ ap (λ (x : Row). write a (cr ∷ lf ∷ rowText k x ++ rowsLeft n rows (suc k))) f
-        ∙ ap (λ (m : ℕ). write a (cr ∷ lf ∷ ended (rowTexts k (rowsFrom rows k m)))) (sym e)
+        ∙ ap (λ (m : ℕ). write a (cr ∷ lf ∷ ended (rowTexts k (rowsAt rows k m)))) (sym e)
 
     pub end-written : n ≤ k → {b : Text} → b ≡ write a (cr ∷ lf ∷ []) → b ≡ write a (rowsLeft n rows k)
-    unfolding ended rowTexts rowsFrom
+    unfolding ended rowTexts rowsAt
     end-written l h =
         let e : n - k ≡ 0 = omega arith in
-        h ∙ ap (λ (m : ℕ). write a (cr ∷ lf ∷ ended (rowTexts k (rowsFrom rows k m)))) (sym e)
+        h ∙ ap (λ (m : ℕ). write a (cr ∷ lf ∷ ended (rowTexts k (rowsAt rows k m)))) (sym e)

@@ -5,7 +5,7 @@ use lib.Seq.{length-take-le}
 use borrow.Author.Tests.{lt-ltb, le-ltb}
 use borrow.Author.Needs.{needs}
 use Rattle.lemmas.proofs.Cases.{at-true, at-false}
-use Rattle.reader.specs.Answers.{judgedOf, checkedAs}
+use Rattle.reader.specs.Answers.{graphJudged, checkedAs}
 use Rattle.reader.proofs.files.judge.Statement.{statement}
 use Rattle.reader.proofs.files.judge.Tie as tie
 
@@ -13,7 +13,7 @@ no-graph-requires : tie.Need-no-graph-requires
 no-graph-requires c κs = search needs
 
 returns : tie.Need-returns
-unfolding judgedOf
+unfolding graphJudged
 returns c = at-true _ (lt-ltb _ _ (c .before .if1 .taken)) (c .no-graph .ensures)
 
 mul-rows : tie.Need-mul-rows
@@ -38,11 +38,11 @@ enum-told : tie.Need-enum-told
 enum-told c = search needs
 
 returns-2 : tie.Need-returns-2
-unfolding judgedOf
+unfolding graphJudged
 returns-2 c = at-false _ (le-ltb _ _ (c .before .before .before .before .before .before .if1 .left)) ((c .no-graph2 .ensures) ∙ ap (checkedAs _ _) (sym (c .before .before .checked .given .1) ∙ (c .before .before .before .before .check .ensures)))
 
 returns-3 : tie.Need-returns-3
-unfolding judgedOf
+unfolding graphJudged
 returns-3 c = at-false _ (le-ltb _ _ (c .before .before .before .before .if1 .left)) (ap (checkedAs _ _) (sym (c .enum-told .given .1) ∙ (c .before .before .check .ensures)))
 
 pub judge-spec : {M : Type 1} → statement M

@@ -1,6 +1,6 @@
 -- `field_at` meets its contract. Assumes nothing.
 use borrow.Author.Needs.{needs}
-use Rattle.reader.proofs.Taking.{field-says}
+use Rattle.reader.proofs.Taking.{field-found}
 use Rattle.reader.proofs.places.field_at.Statement.{statement}
 use Rattle.reader.proofs.places.field_at.Tie as tie
 
@@ -29,7 +29,7 @@ add-t10 : tie.Need-add-t10
 add-t10 c = search needs
 
 returns : tie.Need-returns
-returns c = field-says _ _ _ (c .before .before .before .before .before .before .pre) (c .before .before .before .before .find .ensures .0) (c .before .before .before .before .find .ensures .1) _ _ (c .before .before .bare .ensures .1) (c .before .before .bare .ensures .2) (c .before .before .bare .ensures .0)
+returns c = field-found _ _ _ (c .before .before .before .before .before .before .pre) (c .before .before .before .before .find .ensures .0) (c .before .before .before .before .find .ensures .1) _ _ (c .before .before .bare .ensures .1) (c .before .before .bare .ensures .2) (c .before .before .bare .ensures .0)
 
 pub field-at-spec : {M : Type 1} → statement M
 field-at-spec =
