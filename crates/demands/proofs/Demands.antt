@@ -13,13 +13,15 @@ use Rattle.lent.specs.declared.steps.Step.{Step}
 use Rattle.bench.specs.Bench.{Bench, fresh}
 use Rattle.rounds.specs.History.{Opened as History·Opened, verdictsOf}
 use Rattle.rounds.specs.ManyRounds.{ManyRounds}
-use Rattle.demands.specs.Turns.{Turn, turns, afterSteps, heard, Opened, verdictsGiven}
+use Rattle.demands.specs.Turns.{Turn, turns, afterSteps, eventOf, heard, Opened, verdictsGiven}
 use Rattle.demands.specs.Demands.{Demand3, Demands}
 use Rattle.demands.proofs.Refused.{demand-1}
 use Rattle.demands.proofs.Claims.{demand-2}
 use Rattle.demands.proofs.Stands.{Stands, sent-count}
 use Rattle.demands.proofs.Past.{opened-heard, heard-opened}
+use Rattle.demands.proofs.Verdicts.{verdict-accepted, turn-answer}
 use Rattle.demands.proofs.Shown.{round-count}
+use Rattle.demands.proofs.Frame.{step-leaves}
 use Rattle.demands.proofs.Lists.{as-a-list}
 use Rattle.demands.proofs.Steps.{as-numbers, opens, opens-only}
 use Rattle.demands.proofs.Rounds.{stands, rules, given, ends, evidence, room-enough}
@@ -62,7 +64,8 @@ module _ (n : ℕ) (rows messages : List ℕ) (steps : List Step) (ok : checkOf 
     opens-only = opens-only n rows now;
     as-numbers = as-numbers;
     at-once = on-bench n rows;
-    opener = λ round v g. let r = all .said-opened round v (said round v g) in (r .0, heard-opened n rows messages steps (r .0) round (r .1));
+    opener = λ t i v g. heard-opened n rows messages steps _ _
+        (all .opener (eventOf t) (t .gave .answer) (turn-answer n rows messages ok steps t i (verdict-accepted (t .gave .answer) v g)) v g);
     no-false = λ s round v o g. all .verdict-right s round (opened s round o) v (said round v g);
     one-verdict = λ round. subst (λ (x : List Verdict). length x ≤ 1) (sym (given n rows messages steps ok round)) (all .one-verdict round);
     ends = ends n rows messages steps ok;
@@ -75,6 +78,7 @@ module _ (n : ℕ) (rows messages : List ℕ) (steps : List Step) (ok : checkOf 
         let c = all .count-exactly s round (opened s round o) v (said round v g) in
         (c .0, c .1, c .2, c .3, round-count st round ∙ c .4);
     evidence = evidence n rows messages steps ok;
+    leaves = step-leaves n rows;
     as-a-list = as-a-list n rows now (st .good);
   }
 

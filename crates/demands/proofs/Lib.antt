@@ -10,11 +10,14 @@ pub mod Heard
 pub mod Past
 pub mod Verdicts
 pub mod Shown
+pub mod Frame
 pub mod Lists
 pub mod Steps
 pub mod Rounds
 pub mod Arriving
+pub mod Controller
 pub mod Alone
+pub mod Controllers
 pub mod AtOnce
 pub mod Demands
 pub mod SameEnd

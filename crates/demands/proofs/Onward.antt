@@ -1,8 +1,7 @@
 -- One step of a bench that stands for a history: it is refused, or the history goes on. Assumes nothing.
 use mathlib.Core.Path.{_≡_, refl, sym, ap, _∙_, subst, subst₂}
 use mathlib.Core.Bool.{Bool, true, false, cond}
-use mathlib.Core.Logic.{⊎-elim}
-use mathlib.Core.List.{List, _∷_, _++_, map, map-append, List·Memᴰ, List·Memᴰ·append-cases}
+use mathlib.Core.List.{List, _∷_, _++_, map, map-append}
 use Prim.Native.Nat.{ℕ, _+_, _≤_, _<_}
 use native.Mathlib.Omega.{arith}
 use lib.Dec.{eqb, leb, ltb}
@@ -11,8 +10,6 @@ use lib.Seq.{sets}
 use borrow.Author.Tests.{leb-false, ltb-true, ltb-false}
 use Rattle.lemmas.proofs.Stores.{sets-before}
 use Rattle.nodes.specs.Sets.{noNode}
-use Rattle.nodes.proofs.Operations.{in-below}
-use Rattle.nodes.proofs.Inside.{inside-member}
 use Rattle.records.specs.Rounds.{cannotOpen}
 use Rattle.records.specs.Messages.{Letter}
 use Rattle.records.specs.Records.{State}
@@ -20,8 +17,6 @@ use Rattle.waits.specs.Waits.{Waits}
 use Rattle.waits.specs.Rows.{waitsOf}
 use Rattle.step.specs.Step.{Outcome, seenIn, openRound, receive}
 use Rattle.step.specs.Letters.{lettersOf}
-use Rattle.step.proofs.Letters.{letter-in}
-use Rattle.step.proofs.Among.{ToAmong}
 use Rattle.lent.specs.declared.steps.Step.{Step}
 use Rattle.lent.specs.Kept.{stateAt, putState}
 use Rattle.lent.specs.Coded.{messageOf, numberOf}
@@ -30,7 +25,7 @@ use Rattle.bench.specs.Bench.{Bench, After, bench, after, room}
 use Rattle.bench.specs.Strange.{Good}
 use Rattle.bench.specs.Steps.{letterAt, refuse, join, openAt, arriveAt, deliverAt, takeStep, stepOn}
 use Rattle.bench.proofs.Sound.{Sound, good-sound, room-le, record-there, sent-fine}
-use Rattle.bench.proofs.Keeping.{apart, joined, opened-fine, to-there, arrived-fine, step-good, step-taken}
+use Rattle.bench.proofs.Keeping.{apart, joined, to-there, step-good, step-taken}
 use Rattle.rounds.specs.History.{Event, nodeOf, outcome, since, highestIn, History}
 use Rattle.rounds.proofs.Put.{put-all}
 use Rattle.demands.specs.Turns.{turn, eventOf}
@@ -53,7 +48,7 @@ module _ {n : ℕ} {rows : List ℕ} {b : Bench} {l : List Event} (st : Stands n
   sound : Sound n rows b
   sound = good-sound n rows b (st .good)
 
-  module _ (e : Event) (history : History w (e ∷ l)) (there : nodeOf e < n) (sends : ToAmong n (outcome w (since w l) e .sends)) where
+  module _ (e : Event) (history : History w (e ∷ l)) where
     abbrev out : Outcome
     out = outcome w (since w l) e
 
@@ -78,16 +73,6 @@ module _ {n : ℕ} {rows : List ℕ} {b : Bench} {l : List Event} (st : Stands n
         ∙ ap (λ (x : List ℕ). x ++ map numberOf new) (st .messages)
         ∙ sym (map-append numberOf (since w l .sent) new)
 
-    next-nodes : (m : Letter) → List·Memᴰ m (since w (e ∷ l) .sent) → (m .from < n) × (m .to < n)
-    unfolding since
-    next-nodes m i =
-        ⊎-elim
-        (st .nodes m)
-        (λ (j : List·Memᴰ m new).
-        let h = letter-in (nodeOf e) (out .state .round) (out .sends) m .0 j in
-        (subst (λ (x : ℕ). x < n) (sym (h .0)) there, in-below n (m .to) .0 (inside-member _ _ (m .to) (sends (m .kind)) (h .2))))
-        (List·Memᴰ·append-cases (since w l .sent) i)
-
     next-count : length (since w (e ∷ l) .sent) ≡ b .sent + length new
     unfolding since
     next-count = length-append (since w l .sent) new ∙ ap (λ (x : ℕ). x + length new) (sym (sent-count st))
@@ -98,7 +83,7 @@ module _ {n : ℕ} {rows : List ℕ} {b : Bench} {l : List Event} (st : Stands n
     joins false f good =
         let h : b .sent + length new ≤ room b = ltb-false (room b) (b .sent + length new) f in
         Onward.taken next
-        (record { good = good; history = history; records = next-records; messages = next-messages h; highest = refl; nodes = next-nodes })
+        (record { good = good; history = history; records = next-records; messages = next-messages h; highest = refl })
         (omega arith)
         (λ k i. sets-before (map numberOf new) (b .messages) (b .sent) k i)
 
@@ -118,8 +103,7 @@ module _ {n : ℕ} {rows : List ℕ} {b : Bench} {l : List Event} (st : Stands n
       go false true f g good = Onward.refused 10 (omega arith)
       go false false f g good =
           let h = leb-false n i f in
-          join-onward (Event.opens i round) (h, ap (λ (x : ℕ). cannotOpen x round) (sym (st .highest)) ∙ g, st .history) h
-          (opened-fine n rows b sound i round h g .2) good
+          join-onward (Event.opens i round) (h, ap (λ (x : ℕ). cannotOpen x round) (sym (st .highest)) ∙ g, st .history) good
 
   -- ---- a message arrives
   arrive-onward : (k : ℕ) → k < b .sent → Good n rows (arriveAt w b (letterAt b k) .bench) → Onward n rows b l (Event.arrives (letterAt b k)) (arriveAt w b (letterAt b k))
@@ -128,13 +112,11 @@ module _ {n : ℕ} {rows : List ℕ} {b : Bench} {l : List Event} (st : Stands n
       let x = messageOf (getD (b .messages) k 0) in
       let fine = sent-fine n rows b sound k h in
       let m = letterAt b k in
-      let there = to-there n rows b sound x fine in
-      let same : stateAt (b .records) (m .to) ≡ since w l .records (m .to) = st .records (m .to) there in
+      let same : stateAt (b .records) (m .to) ≡ since w l .records (m .to) = st .records (m .to) (to-there n rows b sound x fine) in
       subst₂ (λ (s : State) (highest : ℕ). Good n rows (join b highest (m .to) (receive (seenIn w (m .to)) s m) .bench)
       → Onward n rows b l (Event.arrives m) (join b highest (m .to) (receive (seenIn w (m .to)) s m)))
       (sym same) (sym (st .highest))
-      (join-onward (Event.arrives m) (letter-sent st k h, st .history) there
-      (subst (λ (s : State). ToAmong n (receive (seenIn w (m .to)) s m .sends)) same (arrived-fine n rows b sound x fine .2)))
+      (join-onward (Event.arrives m) (letter-sent st k h, st .history))
 
   deliver-onward : (k : ℕ) → Good n rows (deliverAt w b k .bench) → Onward n rows b l (Event.arrives (letterAt b k)) (deliverAt w b k)
   unfolding deliverAt

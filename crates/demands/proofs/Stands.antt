@@ -17,6 +17,7 @@ use Rattle.records.proofs.Among.{among-record, blank-among}
 use Rattle.waits.specs.declared.numbers.Checked.the-variants.{Accepted}
 use Rattle.waits.specs.Rows.{waitsOf}
 use Rattle.waits.specs.Numbers.{checkOf}
+use Rattle.waits.proofs.Lawful.{accepted-lawful}
 use Rattle.lent.specs.Kept.{recordSize, recordAt, stateAt}
 use Rattle.lent.specs.Coded.{messageOf, numberOf}
 use Rattle.lent.proofs.Back.{letter-back}
@@ -25,16 +26,16 @@ use Rattle.bench.specs.Strange.{strangeRecordOn, strangeMessages, Good}
 use Rattle.bench.specs.Steps.{letterAt}
 use Rattle.bench.proofs.Sound.{Sound, good-sound, sound-good, shaped, sent-listed}
 use Rattle.rounds.specs.History.{Event, since, highestIn, History}
+use Rattle.rounds.proofs.Among.{history-named}
 
 -- The bench isn't refused, every record is what the rules say, the messages sent are the rules' own in their order, as numbers,
--- and the highest round opened is the same. The rules' messages go from node to node.
+-- and the highest round opened is the same.
 pub record Stands (n : ℕ) (rows : List ℕ) (b : Bench) (l : List Event) : Type 0 where
   pub good : Good n rows b
   pub history : History (waitsOf n rows) l
   pub records : (i : ℕ) → i < n → stateAt (b .records) i ≡ since (waitsOf n rows) l .records i
   pub messages : take (b .sent) (b .messages) ≡ map numberOf (since (waitsOf n rows) l .sent)
   pub highest : b .highest ≡ highestIn l
-  pub nodes : (m : Letter) → List·Memᴰ m (since (waitsOf n rows) l .sent) → (m .from < n) × (m .to < n)
 
 -- ---- a fresh bench
 zero-at : (k j : ℕ) → _≡_ {A = ℕ} (getD (replicate k 0) j 0) 0
@@ -79,7 +80,6 @@ module _ (n : ℕ) (rows messages : List ℕ) (ok : checkOf n rows ≡ Accepted)
     records = λ i h. blank-at (n * recordSize) i;
     messages = refl;
     highest = refl;
-    nodes = λ m i. absurd (elim i [ ]);
   }
 
 -- ---- a list that is mapped: what stands at a place, and where something stands
@@ -112,7 +112,7 @@ module _ {n : ℕ} {rows : List ℕ} {b : Bench} {l : List Event} (st : Stands n
   pub read-back : (m : Letter) → List·Memᴰ m letters → letterOf (messageOf (numberOf m)) ≡ m
   read-back m i =
       let few = shaped n rows b sound .0 in
-      let h = st .nodes m i in
+      let h = history-named (waitsOf n rows) (accepted-lawful n rows (sound .accepted)) l (st .history) .letters m i in
       letter-back m (omega (arith, few, h .0)) (omega (arith, few, h .1))
 
   -- Theorem: message k is one of the rules', and each of those is some message.

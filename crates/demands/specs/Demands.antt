@@ -46,10 +46,10 @@ use Rattle.lent.specs.Coded.{numberOf}
 use Rattle.bench.specs.Bench.{Bench, fresh, room, after}
 use Rattle.bench.specs.Steps.{stepOn}
 use Rattle.bench.specs.Runs.{run, runOf}
-use Rattle.rounds.specs.Verdicts.{Right}
+use Rattle.rounds.specs.Verdicts.{verdictIn, Right}
 use Rattle.rounds.specs.Ends.{FreedFrom, leaving, entering}
-use Rattle.rounds.specs.History.{since, History, openings}
-use Rattle.demands.specs.Turns.{afterSteps, Turn, turn, turns, accepted, Full, Unless12, opening, takenSingly}
+use Rattle.rounds.specs.History.{nodeOf, roundOf, since, History, openings}
+use Rattle.demands.specs.Turns.{afterSteps, Turn, turn, turns, accepted, Full, Unless12, opening, Leaves, takenSingly}
 use Rattle.demands.specs.Turns.{eventOf, heard, Opened, AllArrived, CanAllArrive, verdictsGiven, messagesOf, heldOn}
 use Rattle.demands.specs.Refusals.{stepLines, runLines}
 
@@ -144,8 +144,9 @@ module _ (n : ℕ) (rows : List ℕ) where
       -- The paper: a node sees only its own row and IN. So an opening says nothing, but of an active node that nobody waits on.
       pub at-once : (b : Bench) (s round : ℕ) (v : Verdict) → stepOn n rows b (opening s round) .answer ≡ Answer·Opened v
           → v ≡ saidAtOnce (seenIn w s)
-      -- "no round ever gives a false verdict": what is said in a round, once at most, is right of the node that opened it.
-      pub opener : (round : ℕ) (v : Verdict) → List·Memᴰ v (verdictsGiven round past) → (s : ℕ) × Opened past s round
+      -- "no round ever gives a false verdict": what is said in a round, once at most, is said by the node that opened it, and is right of
+      -- that node.
+      pub opener : (t : Turn) → List·Memᴰ t past → (v : Verdict) → List·Memᴰ v (verdictIn (t .gave .answer)) → Opened past (nodeOf (eventOf t)) (roundOf (eventOf t))
       pub no-false : (s round : ℕ) (v : Verdict) → Opened past s round → List·Memᴰ v (verdictsGiven round past) → Right w s v
       pub one-verdict : (round : ℕ) → length (verdictsGiven round past) ≤ 1
       -- "If no later round is opened, and each message of the newest round arrives at least once, that round ends with the right verdict,
@@ -166,6 +167,9 @@ module _ (n : ℕ) (rows : List ℕ) where
       pub evidence : (s : ℕ) → Opened past s (now .highest) → List·Memᴰ Verdict·Deadlocked (verdictsGiven (now .highest) past)
           → Evidence w s (heldOn n now)
           × ((found left : List ℕ) (k : ℕ) → WrittenSays n rows s found left (Bytes k) → left ≡ heldOn n now ++ drop k found)
+      -- The paper: a step writes only its new messages, the sent count, the highest round and one record, that of the node where it
+      -- happens; places past the room are never touched. This is said of every bench; a refused step changes nothing at all (`step-left`).
+      pub leaves : (b : Bench) (x : Step) → Leaves b (nodeOf (eventOf (turn n rows b x))) (stepOn n rows b x .bench)
       -- The paper: a list of steps answers as its steps taken singly do, and touches no answer place but theirs.
       pub as-a-list : (l answers : List ℕ) → length l ≤ length answers → runOf n rows now l answers ≡ takenSingly n rows now l answers
 

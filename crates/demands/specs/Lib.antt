@@ -2,6 +2,7 @@
 pub mod Turns
 pub mod Refusals
 pub mod Alone
+pub mod Controllers
 pub mod Demands
 pub mod SameEnd
 pub mod Table

@@ -3,9 +3,9 @@ use mathlib.Core.Path.{_≡_}
 use mathlib.Core.Bool.{Bool, true, false, cond}
 use mathlib.Core.Logic.{_⊎_}
 use mathlib.Core.List.{List, [], _∷_, _++_, map, reverse, List·Memᴰ}
-use Prim.Native.Nat.{ℕ, _<_}
+use Prim.Native.Nat.{ℕ, _+_, _*_, _<_}
 use lib.Dec.{eqb}
-use lib.ListN.{take}
+use lib.ListN.{take, drop}
 use lib.Seq.{sets}
 use Rattle.lemmas.specs.Lists.{those}
 use Rattle.nodes.specs.Sets.{minus, members, gather}
@@ -15,10 +15,10 @@ use Rattle.step.specs.declared.answers.Verdict.{Verdict}
 use Rattle.step.specs.declared.answers.Answer.{Answer}
 use Rattle.step.specs.declared.answers.Answer.the-variants.{Refused, Old, Stray, Repeat, Taken, Opened as Answer·Opened}
 use Rattle.lent.specs.declared.steps.Step.{Step}
-use Rattle.lent.specs.Kept.{stateAt}
+use Rattle.lent.specs.Kept.{recordSize, stateAt}
 use Rattle.lent.specs.Coded.{messageOf}
 use Rattle.lent.specs.Steps.{stepOf}
-use Rattle.bench.specs.Bench.{Bench, After, refusal}
+use Rattle.bench.specs.Bench.{Bench, After, room, refusal}
 use Rattle.bench.specs.Steps.{letterAt, stepOn}
 use Rattle.bench.specs.Runs.{said, Run, run}
 use Rattle.rounds.specs.Verdicts.{verdictIn}
@@ -65,6 +65,17 @@ opening s round = record { kind = 0; a = s; b = round }
 
 abbrev pub delivery : ℕ → Step
 delivery k = record { kind = 1; a = k; b = 0 }
+
+-- Two lists have the same numbers, but for the places from `first` on that are before `next`.
+abbrev pub SameBut : ℕ → ℕ → List ℕ → List ℕ → Type 0
+SameBut first next l m = (take first l ≡ take first m) × (drop next l ≡ drop next m)
+
+-- What a step at node i leaves as it was, from one bench to the next: all places but those of the new messages, all that are past the
+-- room, and all records but that of node i.
+pub record Leaves (b : Bench) (i : ℕ) (next : Bench) : Type 0 where
+  pub messages : SameBut (b .sent) (next .sent) (next .messages) (b .messages)
+  pub past-room : drop (room b) (next .messages) ≡ drop (room b) (b .messages)
+  pub records : SameBut (i * recordSize) (i * recordSize + recordSize) (next .records) (b .records)
 
 -- a list of numbers as steps, the newest first
 abbrev pub singly : List ℕ → List Step

@@ -1,6 +1,6 @@
 -- Every history is told right, as Told has it: an opening keeps it so, and so does a message that arrives. Assumes nothing.
 use mathlib.Core.Path.{_≡_, refl, sym, ap, _∙_, subst}
-use mathlib.Core.Logic.{_⊎_, inl, inr, ⊎-elim}
+use mathlib.Core.Logic.{inl, inr, ⊎-elim}
 use mathlib.Core.List.{List, [], _∷_, _++_, List·Memᴰ, List·Memᴰ·append-cases}
 use mathlib.Core.List.List·Memᴰ.{List·Memᴰ·head as here, List·Memᴰ·tail as there}
 use Prim.Native.Nat.{ℕ, _≤_, _<_}
@@ -77,7 +77,6 @@ module _ {w : Waits} {l : List Event} (told : Told w l) (i round : ℕ) (node : 
   opening-told = record {
     low = put-all (λ k x. x .round ≤ round) (since w l .records) i (openRound (seenIn w i) round .state) opened-low (λ k d. omega (arith, told .low k, above));
     events-low = events-low;
-    events-opened = events-opened;
     sent-opened = λ m h. ⊎-elim
         (λ (g : List·Memᴰ m (since w l .sent)). let o = told .sent-opened m g in (o .0, there (o .1)))
         (λ (g : List·Memᴰ m (sentBy i (openRound (seenIn w i) round))). (i, here (λ j. Event.opens i (begins .letters m g j))))
@@ -99,10 +98,6 @@ module _ {w : Waits} {l : List Event} (told : Told w l) (i round : ℕ) (node : 
       events-low : (e : Event) → List·Memᴰ e (opening ∷ l) → roundOf e ≤ round
       events-low e (here q) = let h : roundOf e ≡ round = ap roundOf q in omega arith
       events-low e (there h) = omega (arith, told .events-low e h, above)
-
-      events-opened : (e : Event) → List·Memᴰ e (opening ∷ l) → (s : ℕ) × Opened (opening ∷ l) s (roundOf e)
-      events-opened e (here q) = (i, here (λ j. Event.opens i (roundOf (q j))))
-      events-opened e (there h) = let o = told .events-opened e h in (o .0, there (o .1))
 
 -- ---- a message arrives
 module _ {w : Waits} (lawful : Lawful w) {l : List Event} (told : Told w l) (m : Letter) (i : List·Memᴰ m (since w l .sent)) where
@@ -156,7 +151,6 @@ module _ {w : Waits} (lawful : Lawful w) {l : List Event} (told : Told w l) (m :
   arrival-told = record {
     low = put-all (λ k x. x .round ≤ highestIn l) (since w l .records) (m .to) (reply w (since w l) m .state) there-low (λ k d. told .low k);
     events-low = events-low;
-    events-opened = events-opened;
     sent-opened = λ x h. ⊎-elim
         (λ (g : List·Memᴰ x (since w l .sent)). let o = told .sent-opened x g in (o .0, there (o .1)))
         (λ (g : List·Memᴰ x (sentBy (m .to) (reply w (since w l) m))). (opener .0, there (subst (λ (r : ℕ). Opened l (opener .0) r) (sym (does .letters x g)) (opener .1))))
@@ -176,17 +170,12 @@ module _ {w : Waits} (lawful : Lawful w) {l : List Event} (told : Told w l) (m :
       events-low e (here q) = let h : roundOf e ≡ m .round = ap roundOf q in omega (arith, round-low)
       events-low e (there h) = told .events-low e h
 
-      events-opened : (e : Event) → List·Memᴰ e (arrival ∷ l) → (s : ℕ) × Opened (arrival ∷ l) s (roundOf e)
-      events-opened e (here q) = (opener .0, there (subst (λ (r : ℕ). Opened l (opener .0) r) (sym (ap roundOf q)) (opener .1)))
-      events-opened e (there h) = let o = told .events-opened e h in (o .0, there (o .1))
-
 -- Theorem: all of it holds of every history.
 pub history-told : (w : Waits) → Lawful w → (l : List Event) → History w l → Told w l
 unfolding since
 history-told w lawful [] h = record {
   low = λ i. omega arith;
   events-low = λ e m. absurd (elim m [ ]);
-  events-opened = λ e m. absurd (elim m [ ]);
   sent-opened = λ m i. absurd (elim i [ ]);
   node = λ s r o. absurd (elim o [ ]);
   one-opener = λ s t r o p. absurd (elim o [ ]);

@@ -23,6 +23,8 @@ pub mod OldRounds
 pub mod Effects
 pub mod Running
 pub mod Saying
+pub mod Openers
 pub mod Told
 pub mod Histories
+pub mod Among
 pub mod ManyRounds

@@ -23,10 +23,11 @@ use Rattle.rounds.specs.Course.{Stage, after, AllDelivered, ended}
 use Rattle.rounds.specs.Verdicts.{verdicts}
 use Rattle.rounds.specs.Ends.{calledIn, freeIn, heldIn, FreedFrom, leaving, entering}
 use Rattle.rounds.specs.OneRound.{OneRound}
-use Rattle.rounds.specs.History.{Event, since, highestIn, History, openings, Opened, ofRound, verdictsOf, standing, AllArrived}
+use Rattle.rounds.specs.History.{Event, nodeOf, since, highestIn, History, openings, Opened, ofRound, verdictsOf, standing, AllArrived}
 use Rattle.rounds.specs.ManyRounds.{ManyRounds}
 use Rattle.rounds.proofs.OneRound.{called-set, free-set, one-round}
 use Rattle.rounds.proofs.Saying.{said-by}
+use Rattle.rounds.proofs.Openers.{all-openers}
 use Rattle.rounds.proofs.Told.{AsCourse, Told}
 use Rattle.rounds.proofs.Histories.{history-told}
 
@@ -157,9 +158,8 @@ module _ (w : Waits) (lawful : Lawful w) (l : List Event) (history : History w l
   -- ---- all rounds
   said-opened : (round : ℕ) (v : Verdict) → List·Memᴰ v (verdictsOf w round l) → (s : ℕ) × Opened l s round
   said-opened round v m =
-      let e = said-by w round l v m in
-      let o = told .events-opened (e .0) (e .1) in
-      (o .0, subst (λ (r : ℕ). Opened l (o .0) r) (e .2) (o .1))
+      let (x, i, e, j) = said-by w round l v m in
+      (nodeOf (x .0), subst (Opened l (nodeOf (x .0))) e (all-openers w l (x .0) (x .1) i v j))
 
   one-verdict : (round : ℕ) → length (verdictsOf w round l) ≤ 1
   one-verdict round = some (verdictsOf w round l) refl
@@ -199,7 +199,7 @@ module _ (w : Waits) (lawful : Lawful w) (l : List Event) (history : History w l
     newest = newest-opened l;
     higher = λ s round o. told .events-low (Event.opens s round) o;
     sent-opened = told .sent-opened;
-    said-opened = said-opened;
+    opener = all-openers w l;
     verdict-right = λ s round o v m. right s round o .verdict-right v (in-course s round o v m);
     one-verdict = one-verdict;
     it-ends = it-ends;

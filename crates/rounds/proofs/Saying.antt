@@ -9,8 +9,9 @@ use native.Mathlib.Decide.{ℕ-discrete}
 use borrow.Author.Tests.{eq-eqb, ne-eqb}
 use Rattle.waits.specs.Waits.{Waits}
 use Rattle.step.specs.declared.answers.Verdict.{Verdict}
+use Rattle.step.specs.declared.answers.Answer.{Answer}
 use Rattle.rounds.specs.Verdicts.{verdictIn}
-use Rattle.rounds.specs.History.{Event, roundOf, outcome, since, verdictsOf}
+use Rattle.rounds.specs.History.{Event, roundOf, outcome, since, answersOf, verdictsOf}
 
 module _ (w : Waits) (round : ℕ) (e : Event) (l : List Event) where
   -- what the event says
@@ -42,13 +43,14 @@ unfolding verdictsOf
 said-nothing w round [] h = refl
 said-nothing w round (e ∷ l) h = said-else w round e l (h e (here refl)) ∙ said-nothing w round l (λ x m. h x (there m))
 
--- what is said in a round is said by an event of it
-pub said-by : (w : Waits) (round : ℕ) (l : List Event) (v : Verdict) → List·Memᴰ v (verdictsOf w round l) → (e : Event) × List·Memᴰ e l × (roundOf e ≡ round)
+-- what is said in a round is the answer to an event of it
+pub said-by : (w : Waits) (round : ℕ) (l : List Event) (v : Verdict) → List·Memᴰ v (verdictsOf w round l)
+    → (x : Event × Answer) × List·Memᴰ x (answersOf w l) × (roundOf (x .0) ≡ round) × List·Memᴰ v (verdictIn (x .1))
 unfolding verdictsOf
 said-by w round [] v m = absurd (elim m [ ])
 said-by w round (e ∷ l) v m =
     let ih = said-by w round l v in
     elim (said-when w round e l v m) [
-      | inl p ↦ (e, here refl, p .0)
-      | inr j ↦ let r = ih j in (r .0, there (r .1), r .2)
+      | inl p ↦ ((e, outcome w (since w l) e .answer), here refl, p .0, p .1)
+      | inr j ↦ let r = ih j in (r .0, there (r .1), r .2, r .3)
     ]

@@ -19,7 +19,6 @@ pub record AsCourse (w : Waits) (l : List Event) (s round : ℕ) : Type 0 where
 pub record Told (w : Waits) (l : List Event) : Type 0 where
   pub low : (i : ℕ) → since w l .records i .round ≤ highestIn l
   pub events-low : (e : Event) → List·Memᴰ e l → roundOf e ≤ highestIn l
-  pub events-opened : (e : Event) → List·Memᴰ e l → (s : ℕ) × Opened l s (roundOf e)
   pub sent-opened : (m : Letter) → List·Memᴰ m (since w l .sent) → (s : ℕ) × Opened l s (m .round)
   pub node : (s round : ℕ) → Opened l s round → s < w .nodes
   pub one-opener : (s t round : ℕ) → Opened l s round → Opened l t round → s ≡ t

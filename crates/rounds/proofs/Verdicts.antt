@@ -45,7 +45,7 @@ unfolding verdictOf
 verdict-opener true t e = ap (λ (b : Bool). given (cond b (cond (free t) NotDeadlocked Deadlocked) NoVerdict)) e
 verdict-opener false t e = refl
 
-verdict-other : (x : Bool) (t : State) → byItself (t .call) ≡ false → given (verdictOf x t) ≡ []
+pub verdict-other : (x : Bool) (t : State) → byItself (t .call) ≡ false → given (verdictOf x t) ≡ []
 unfolding verdictOf
 verdict-other true t e = ap (λ (b : Bool). given (cond b (cond (free t) NotDeadlocked Deadlocked) NoVerdict)) e
 verdict-other false t e = refl

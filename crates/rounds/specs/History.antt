@@ -10,6 +10,7 @@ use Rattle.records.specs.Messages.{Letter}
 use Rattle.records.specs.Records.{inRound}
 use Rattle.waits.specs.Waits.{Waits}
 use Rattle.step.specs.declared.answers.Verdict.{Verdict}
+use Rattle.step.specs.declared.answers.Answer.{Answer}
 use Rattle.step.specs.Step.{Outcome, seenIn, openRound}
 use Rattle.rounds.specs.Course.{Stage, joined, unheard, reply}
 use Rattle.rounds.specs.Verdicts.{verdictIn}
@@ -66,10 +67,19 @@ Opened l s round = List·Memᴰ (Event.opens s round) l
 abbrev pub ofRound : ℕ → List Letter → List Letter
 ofRound round = those (λ m. eqb (m .round) round)
 
--- the verdicts that events of a round gave, the newest first
+-- each event with what its node answered, the newest first
+abbrev pub answersOf : Waits → List Event → List (Event × Answer)
+answersOf w [] = []
+answersOf w (e ∷ l) = (e, outcome w (since w l) e .answer) ∷ answersOf w l
+
+-- the verdicts among the answers to events of a round
+abbrev pub verdictsAmong : ℕ → List (Event × Answer) → List Verdict
+verdictsAmong round [] = []
+verdictsAmong round (x ∷ l) = cond (eqb (roundOf (x .0)) round) (verdictIn (x .1)) [] ++ verdictsAmong round l
+
+-- the verdicts that events of a round gave
 unfoldable pub verdictsOf : Waits → ℕ → List Event → List Verdict
-verdictsOf w round [] = []
-verdictsOf w round (e ∷ l) = cond (eqb (roundOf e) round) (verdictIn (outcome w (since w l) e .answer)) [] ++ verdictsOf w round l
+verdictsOf w round l = verdictsAmong round (answersOf w l)
 
 -- the records as they stand in a round, and its messages
 abbrev pub standing : ℕ → Stage → Stage

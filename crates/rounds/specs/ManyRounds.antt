@@ -11,18 +11,19 @@ use Rattle.waits.specs.Deadlocked.{Reachable}
 use Rattle.deadlock.specs.Evidence.{Evidence}
 use Rattle.step.specs.declared.answers.Verdict.{Verdict}
 use Rattle.step.specs.declared.answers.Verdict.the-variants.{Deadlocked}
-use Rattle.rounds.specs.Verdicts.{Right}
+use Rattle.step.specs.declared.answers.Answer.{Answer}
+use Rattle.rounds.specs.Verdicts.{verdictIn, Right}
 use Rattle.rounds.specs.Ends.{calledIn, freeIn, heldIn, FreedFrom, leaving, entering}
-use Rattle.rounds.specs.History.{Event, since, highestIn, openings, Opened, ofRound, verdictsOf, standing, AllArrived}
+use Rattle.rounds.specs.History.{Event, nodeOf, roundOf, since, highestIn, openings, Opened, ofRound, answersOf, verdictsOf, standing, AllArrived}
 
 pub record ManyRounds (w : Waits) (l : List Event) : Type 0 where
-  -- A round is opened by one node, before any message is sent in it or anything is said in it, and the newest is the highest.
+  -- A round is opened by one node, before any message is sent in it, and the newest is the highest.
   pub one-opener : (s t round : ℕ) → Opened l s round → Opened l t round → s ≡ t
   pub higher : (s round : ℕ) → Opened l s round → round ≤ highestIn l
   pub newest : (highestIn l ≡ 0) ⊎ ((s : ℕ) × Opened l s (highestIn l))
   pub sent-opened : (m : Letter) → List·Memᴰ m (since w l .sent) → (s : ℕ) × Opened l s (m .round)
-  pub said-opened : (round : ℕ) (v : Verdict) → List·Memᴰ v (verdictsOf w round l) → (s : ℕ) × Opened l s round
-  -- No round ever gives a false verdict, nor more than one.
+  -- Only the node that opened a round gives a verdict in it. No round ever gives a false one, nor more than one.
+  pub opener : (e : Event) (a : Answer) → List·Memᴰ (e, a) (answersOf w l) → (v : Verdict) → List·Memᴰ v (verdictIn a) → Opened l (nodeOf e) (roundOf e)
   pub verdict-right : (s round : ℕ) → Opened l s round → (v : Verdict) → List·Memᴰ v (verdictsOf w round l) → Right w s v
   pub one-verdict : (round : ℕ) → length (verdictsOf w round l) ≤ 1
   -- If each message of the newest round has arrived at least once, that round has given its verdict.
