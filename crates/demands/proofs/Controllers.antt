@@ -162,9 +162,9 @@ module _ (n : ℕ) (rows : List ℕ) (ok : checkOf n rows ≡ Accepted) where
     opener : (e : Event) (a : Answer) → List·Memᴰ (e, a) (answers n rows l) → (v : Verdict) → List·Memᴰ v (verdictIn a) → Opened l (nodeOf e) (roundOf e)
     opener e a i = all .opener e a (answered (e, a) i)
 
-    no-false : (e : Event) (a : Answer) → List·Memᴰ (e, a) (answers n rows l) → (v : Verdict) → List·Memᴰ v (verdictIn a) → Right w (nodeOf e) v
+    right : (e : Event) (a : Answer) → List·Memᴰ (e, a) (answers n rows l) → (v : Verdict) → List·Memᴰ v (verdictIn a) → Right w (nodeOf e) v
     unfolding verdictsOf
-    no-false e a i v j = all .verdict-right (nodeOf e) (roundOf e) (opener e a i v j) v (among-verdicts (answersOf w l) (e, a) (answered (e, a) i) v j)
+    right e a i v j = all .verdict-right (nodeOf e) (roundOf e) (opener e a i v j) v (among-verdicts (answersOf w l) (e, a) (answered (e, a) i) v j)
 
     ends : (s : ℕ) → Opened l s (highestIn l)
         → ((m : Letter) → List·Memᴰ m (together n rows l .sent) → m .round ≡ highestIn l → List·Memᴰ (Event.arrives m) l)
@@ -189,8 +189,7 @@ module _ (n : ℕ) (rows : List ℕ) (ok : checkOf n rows ≡ Accepted) where
     together-right = record {
       not-refused = λ e a i. all-accepted l (e, a) (answered (e, a) i);
       astray = subst (λ (c : Stage). (m : Letter) → List·Memᴰ m (c .sent) → (i : ℕ) → i < n → (m .to ≡ i → ⊥) → Astray c m i) (sym same) comes-astray;
-      opener = opener;
-      no-false = no-false;
+      no-false = λ e a i v j. (opener e a i v j, right e a i v j);
       one-verdict = λ round. subst (λ (x : List Verdict). length x ≤ 1) (sym (verdicts round)) (all .one-verdict round);
       ends = ends;
       by-rules = by-rules l may;

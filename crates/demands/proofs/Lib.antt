@@ -18,6 +18,7 @@ pub mod Arriving
 pub mod Controller
 pub mod Alone
 pub mod Controllers
+pub mod AtWork
 pub mod AtOnce
 pub mod Demands
 pub mod SameEnd

@@ -65,13 +65,15 @@ module _ (n : ℕ) (rows : List ℕ) where
   MayHappen (Event.arrives m ∷ l) = List·Memᴰ m (together l .sent) × MayHappen l
 
   pub record Together (l : List Event) : Type 0 where
-    -- No call is refused. A message that has come to a controller it isn't for changes nothing there.
+    -- No call is refused: 13 is for what can't be, and what they keep and send can be. A message that has come to a controller which it
+    -- isn't for changes nothing there.
     pub not-refused : (e : Event) (a : Answer) → List·Memᴰ (e, a) (answers l) → accepted a ≡ true
     pub astray : (m : Letter) → List·Memᴰ m (together l .sent) → (i : ℕ) → i < n → (m .to ≡ i → ⊥)
         → (delivers i (together l .records i) m ≡ still (together l .records i) Old) ⊎ (delivers i (together l .records i) m ≡ still (together l .records i) Stray)
-    -- "no round gives a false verdict": one is given only by the controller that opened the round, of itself, and once at most.
-    pub opener : (e : Event) (a : Answer) → List·Memᴰ (e, a) (answers l) → (v : Verdict) → List·Memᴰ v (verdictIn a) → Opened l (nodeOf e) (roundOf e)
-    pub no-false : (e : Event) (a : Answer) → List·Memᴰ (e, a) (answers l) → (v : Verdict) → List·Memᴰ v (verdictIn a) → Right w (nodeOf e) v
+    -- "no round gives a false verdict": only the controller that opened a round gives one in it, which is right of its node, and once at
+    -- most.
+    pub no-false : (e : Event) (a : Answer) → List·Memᴰ (e, a) (answers l) → (v : Verdict) → List·Memᴰ v (verdictIn a)
+        → Opened l (nodeOf e) (roundOf e) × Right w (nodeOf e) v
     pub one-verdict : (round : ℕ) → length (verdictsAmong round (answers l)) ≤ 1
     -- "and a round after which no other is opened gives the right one once each of its messages has arrived."
     pub ends : (s : ℕ) → Opened l s (highestIn l)
