@@ -33,7 +33,7 @@ module _ (b i : ℕ) (s : List ℕ) where
   unfolding upTo
   up-on h n = ap (upTo b) (here s i h) ∙ sym (at-false 0 (ne-eqb (getD s i 0) b n) refl)
 
-up-le : (b : ℕ) (l : List ℕ) → upTo b l ≤ length l
+pub up-le : (b : ℕ) (l : List ℕ) → upTo b l ≤ length l
 unfolding upTo
 up-le b [] = omega arith
 up-le b (x ∷ l) = go (eqb x b) (up-le b l)

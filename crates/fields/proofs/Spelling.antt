@@ -1,48 +1,77 @@
 -- A field without its quotes, and texts that are the same. Assumes nothing.
 use mathlib.Core.Path.{_≡_, refl, sym, ap, ap₂, _∙_}
-use mathlib.Core.Bool.{true, false, _&&_}
+use mathlib.Core.Bool.{Bool, true, false, cond, _&&_}
 use mathlib.Core.List.{List, [], _∷_}
 use Prim.Native.Nat.{ℕ, suc, _+_, _-_, _≤_, _<_}
 use native.Mathlib.Omega.{arith}
 use lib.Dec.{leb, eqb}
 use lib.ListN.{length, getD, take, drop, drop-of-length-le}
 use lib.Seq.{take-length}
-use borrow.Author.Tests.{le-leb, lt-leb, eq-eqb, ne-eqb}
+use borrow.Author.Tests.{le-leb, lt-leb, eq-eqb, ne-eqb, leb-true}
 use Rattle.lemmas.proofs.Cases.{at-true, at-false}
-use Rattle.lemmas.proofs.Tests.{and-intro, and-first, and-later}
+use Rattle.lemmas.proofs.Tests.{and-intro, and-left, and-first, and-later}
 use Rattle.format.specs.Cut.{quote}
 use Rattle.format.specs.Fields.{quoted, bare, same}
+use Rattle.fields.specs.declared.words.Part.{Part}
+use Rattle.fields.specs.Answers.{bareAt}
 use Rattle.fields.proofs.Finding.{here}
 
 -- ---- quotes
 module _ (w : List ℕ) where
-  whole : quoted w ≡ false → take (length w - 0) (drop 0 w) ≡ bare w
-  unfolding bare
-  whole e =
-      ap (λ (n : ℕ). take n w) (let q : length w - 0 ≡ length w = omega arith in q) ∙ take-length w
-      ∙ at-false (take (length w - 2) (drop 1 w)) e refl
+  abbrev inner : Part
+  inner = record { start = 1; end = length w - 1 }
 
-  pub bare-short : length w < 2 → take (length w - 0) (drop 0 w) ≡ bare w
+  abbrev whole : Part
+  whole = record { start = 0; end = length w }
+
+  unquoted : quoted w ≡ false → whole ≡ bareAt w
+  unfolding bareAt
+  unquoted e = at-false inner e refl
+
+  pub bare-short : length w < 2 → whole ≡ bareAt w
   unfolding quoted
-  bare-short h = whole (and-first _ (lt-leb 2 (length w) h))
+  bare-short h = unquoted (and-first _ (lt-leb 2 (length w) h))
 
-  pub bare-unopened : (getD w 0 0 ≡ quote → ⊥) → take (length w - 0) (drop 0 w) ≡ bare w
+  pub bare-unopened : (getD w 0 0 ≡ quote → ⊥) → whole ≡ bareAt w
   unfolding quoted
-  bare-unopened n = whole (and-later (leb 2 (length w)) (and-first _ (ne-eqb (getD w 0 0) quote n)))
+  bare-unopened n = unquoted (and-later (leb 2 (length w)) (and-first _ (ne-eqb (getD w 0 0) quote n)))
 
-  pub bare-unclosed : (getD w (length w - 1) 0 ≡ quote → ⊥) → take (length w - 0) (drop 0 w) ≡ bare w
+  pub bare-unclosed : (getD w (length w - 1) 0 ≡ quote → ⊥) → whole ≡ bareAt w
   unfolding quoted
-  bare-unclosed n =
-      whole (and-later (leb 2 (length w)) (and-later (eqb (getD w 0 0) quote) (ne-eqb (getD w (length w - 1) 0) quote n)))
+  bare-unclosed n = unquoted (and-later (leb 2 (length w)) (and-later (eqb (getD w 0 0) quote) (ne-eqb (getD w (length w - 1) 0) quote n)))
 
-  pub bare-quoted : 2 ≤ length w → getD w 0 0 ≡ quote → getD w (length w - 1) 0 ≡ quote → take (length w - 1 - 1) (drop 1 w) ≡ bare w
-  unfolding quoted bare
+  pub bare-quoted : 2 ≤ length w → getD w 0 0 ≡ quote → getD w (length w - 1) 0 ≡ quote → inner ≡ bareAt w
+  unfolding quoted bareAt
   bare-quoted h a b =
-      ap (λ (n : ℕ). take n (drop 1 w)) (let q : length w - 1 - 1 ≡ length w - 2 = omega arith in q)
-      ∙ at-true w
+      at-true whole
       (and-intro (leb 2 (length w)) _ (le-leb 2 (length w) h)
       (and-intro (eqb (getD w 0 0) quote) _ (eq-eqb (getD w 0 0) quote a) (eq-eqb (getD w (length w - 1) 0) quote b)))
       refl
+
+-- a part of a text, which is this one
+pub record PartIs (w t : List ℕ) (p : Part) : Type 0 where
+  pub says : take (p .end - p .start) (drop (p .start) w) ≡ t
+  pub order : p .start ≤ p .end
+  pub inside : p .end ≤ length w
+
+-- Law: the part that `bareAt` gives is the field without its quotes.
+pub bare-part : (w : List ℕ) → PartIs w (bare w) (bareAt w)
+unfolding quoted bare bareAt
+bare-part w = by (quoted w) refl
+  where
+    by : (q : Bool) → quoted w ≡ q → PartIs w (cond q (take (length w - 2) (drop 1 w)) w) (cond q (inner w) (whole w))
+    by true e =
+        let h = leb-true 2 (length w) (and-left (leb 2 (length w)) _ e) in
+        record {
+          says = ap (λ (n : ℕ). take n (drop 1 w)) (let q : length w - 1 - 1 ≡ length w - 2 = omega arith in q);
+          order = omega arith;
+          inside = omega arith;
+        }
+    by false e = record {
+      says = ap (λ (n : ℕ). take n w) (let q : length w - 0 ≡ length w = omega arith in q) ∙ take-length w;
+      order = omega arith;
+      inside = omega arith;
+    }
 
 -- ---- the same text
 pub same-length : (a b : List ℕ) → (length a ≡ length b → ⊥) → false ≡ same a b

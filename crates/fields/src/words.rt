@@ -1,8 +1,7 @@
 // A field without its quotes, and whether two texts are the same.
 ghost use mathlib.Core.Path.{_≡_};
-ghost use Prim.Native.Nat.{_-_, _≤_};
-ghost use lib.ListN.{length, take, drop};
-ghost use Rattle.format.specs.Fields.{bare as bare-of, same as same-of};
+ghost use Rattle.format.specs.Fields.{same as same-of};
+ghost use Rattle.fields.specs.Answers.{bareAt};
 
 // A part of a text: from start to before end.
 pub struct Part {
@@ -10,9 +9,9 @@ pub struct Part {
     pub end: usize,
 }
 
-// What stands between the quotes of a field, or all of it where it isn't quoted.
+// The part of a field that stands between its quotes, or all of it where it isn't quoted.
 pub fn bare(w: &[u8]) -> Part
-    ensures { λ r. ⌜ (take (r .end - r .start) (drop (r .start) (now (w .entry))) ≡ bare-of (now (w .entry))) × (r .start ≤ r .end) × (r .end ≤ length (now (w .entry))) ⌝ }
+    ensures { λ r. ⌜ r ≡ bareAt (now (w .entry)) ⌝ }
 {
     let end = w.len();
     if end < 2 {

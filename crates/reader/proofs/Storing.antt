@@ -1,6 +1,6 @@
 -- The lines of a file, as they are read and stored one after the other; and what comes of the whole file. Assumes nothing.
 use mathlib.Core.Path.{_≡_, refl, sym, ap, ap₂, _∙_, subst}
-use mathlib.Core.Bool.{true, false, not, _||_}
+use mathlib.Core.Bool.{true, false, cond, not, _||_}
 use mathlib.Core.Logic.{⊎-elim}
 use mathlib.Core.List.{List, [], _∷_, _++_, append-assoc, append-nil}
 use mathlib.Core.Option.{Option, none, some}
@@ -9,7 +9,7 @@ use native.Mathlib.Numerals.{add-one}
 use native.Mathlib.Omega.{arith}
 use lib.Dec.{eqb, ltb}
 use lib.ListN.{length, take, drop, length-append, length-replicate}
-use lib.Seq.{sets}
+use lib.Seq.{sets, take-nil}
 use borrow.Author.Tests.{lt-ltb, le-ltb, ltb-true, ltb-false}
 use Rattle.lemmas.proofs.Cases.{at-true, at-false}
 use Rattle.lemmas.proofs.Tests.{or-intro-left, or-intro-right, true-or-false}
@@ -25,6 +25,7 @@ use Rattle.format.specs.Cut.{linesOf}
 use Rattle.format.specs.Files.{isHeader, rowOf, Meant, rowThen, rowsFrom, underHeader, meantBy, judged, saidOf, readOf}
 use Rattle.format.specs.Files.Meant.{Broken, Rows}
 use Rattle.format.specs.Files.Said.{Line}
+use Rattle.format.proofs.Open.{open-format}
 use Rattle.fields.specs.Ends.{upToEnd}
 use Rattle.fields.proofs.Finding.{lines-next, lines-none}
 use Rattle.reader.specs.declared.lines.RowRead.the-variants.{NoRow, IsRow}
@@ -119,27 +120,27 @@ pub kept-out : (rows : List ℕ) (k : ℕ) (r : Row) → length rows ≡ numbers
 kept-out rows k r e h = sym (sets-out (rowNumbers r) rows (k * rowSize) (omega arith))
 
 -- ---- all lines
-pub no-line : (file found rows : List ℕ) → length file ≡ 0 → LinesSay (meantBy file) found rows (Lines·Broken 1)
-unfolding meantBy linesOf LinesSay
-no-line [] found rows h = refl
-no-line (x ∷ file) found rows h = absurd (omega arith)
+no-header-there : isHeader [] ≡ false
+unfolding open-format
+no-header-there = refl
 
-module _ (file : List ℕ) {end : ℕ} (some-byte : length file ≡ 0 → ⊥) (ends : end ≡ 0 + upToEnd (drop 0 file)) where
-  lines : linesOf file ≡ take end file ∷ linesOf (drop (end + 2) file)
-  lines =
-      lines-next file 0 end (positive some-byte) ends
-      ∙ ap (λ (n : ℕ). take n file ∷ linesOf (drop (end + 2) file)) (let q : end - 0 ≡ end = omega arith in q)
-    where
-      positive : {n : ℕ} → (n ≡ 0 → ⊥) → 0 < n
-      positive h = omega arith
+-- what the first line says of the file; an empty file has none, and an empty line is no header either
+first-line : (file : List ℕ) {end : ℕ} → end ≡ 0 + upToEnd (drop 0 file)
+    → meantBy file ≡ cond (isHeader (take end file)) (rowsFrom 0 (linesOf (drop (end + 2) file))) (Broken 1)
+unfolding linesOf meantBy
+first-line [] {end} ends = at-false _ (ap isHeader (take-nil end) ∙ no-header-there) refl
+first-line (x ∷ l) {end} ends =
+    ap underHeader
+    (lines-next (x ∷ l) 0 end (omega arith) ends
+    ∙ ap (λ (n : ℕ). take n (x ∷ l) ∷ linesOf (drop (end + 2) (x ∷ l))) (let q : end - 0 ≡ end = omega arith in q))
 
+module _ (file : List ℕ) {end : ℕ} (ends : end ≡ 0 + upToEnd (drop 0 file)) where
   pub no-header : isHeader (take end file) ≡ false → (found rows : List ℕ) → LinesSay (meantBy file) found rows (Lines·Broken 1)
-  unfolding meantBy LinesSay
-  no-header e found rows = ap underHeader lines ∙ sym (at-false (rowsFrom 0 (linesOf (drop (end + 2) file))) e refl)
+  unfolding LinesSay
+  no-header e found rows = first-line file ends ∙ sym (at-false (rowsFrom 0 (linesOf (drop (end + 2) file))) e refl)
 
   under : isHeader (take end file) ≡ true → rowsFrom 0 (linesOf (drop (end + 2) file)) ≡ meantBy file
-  unfolding meantBy
-  under e = at-true (Broken 1) e refl ∙ sym (ap underHeader lines)
+  under e = at-true (Broken 1) e refl ∙ sym (first-line file ends)
 
   pub under-header : isHeader (take end file) ≡ true → (found rows : List ℕ) (a : Lines) → LinesSay (rowsFrom 0 (linesOf (drop (end + 2) file))) found rows a
       → LinesSay (meantBy file) found rows a

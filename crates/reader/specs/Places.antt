@@ -1,31 +1,42 @@
 -- A place in a line stands for the fields that are left from there on. Assumes nothing.
-use mathlib.Core.Path.{_≡_}
 use mathlib.Core.Bool.{cond}
-use mathlib.Core.List.{List, _∷_}
+use mathlib.Core.List.{List}
 use mathlib.Core.Option.{Option, none, some}
-use Prim.Native.Nat.{ℕ, _+_, _-_, _≤_}
+use Prim.Native.Nat.{ℕ, _+_}
 use lib.Dec.{leb}
 use lib.ListN.{length, take, drop}
+use Rattle.nodes.specs.Words.{asSet}
 use Rattle.format.specs.Cut.{comma}
-use Rattle.format.specs.Fields.{bare, Fields, next}
-use Rattle.fields.specs.Ends.{piecesFrom}
+use Rattle.format.specs.Fields.{numberOf, setIn, Fields, next}
+use Rattle.fields.specs.Ends.{upTo, piecesFrom}
+use Rattle.fields.specs.Answers.{bareAt}
 use Rattle.reader.specs.declared.places.FieldAt.{FieldAt}
+use Rattle.reader.specs.declared.places.NumberAt.{NumberAt}
+use Rattle.reader.specs.declared.places.SetAt.{SetAt}
 
 -- one past the end no field is left, and further on something was wrong
 unfoldable pub left : List ℕ → ℕ → Fields
 left line from = cond (leb from (length line + 1)) (some (piecesFrom comma line from)) none
 
--- the next field as it stands, the fields after it, and the part of the line that it is without its quotes
-pub record FieldFound (line : List ℕ) (from : ℕ) (r : FieldAt) : Type 0 where
-  pub raw : List ℕ
-  pub others : List (List ℕ)
-  pub here : left line from ≡ some (raw ∷ others)
-  pub after : left line (r .next) ≡ some others
-  pub text : take (r .end - r .start) (drop (r .start) line) ≡ bare raw
-  pub order : r .start ≤ r .end
-  pub inside : r .end ≤ length line
+-- the field at a place goes up to the next comma, or to the end: its part of the line without its quotes, and the place behind it
+unfoldable pub fieldAt : List ℕ → ℕ → FieldAt
+fieldAt line from =
+    let long = upTo comma (drop from line) in
+    let part = bareAt (take long (drop from line)) in
+    record { start = from + part .start; end = from + part .end; next = from + long + 1 }
 
--- what `f` reads from there on: a value, and the place behind it
-pub record TakenAt (f : List ℕ → Option ℕ) (line : List ℕ) (from value after : ℕ) : Type 0 where
-  pub read : value ≡ next f (left line from) .value
-  pub rest : left line after ≡ next f (left line from) .rest
+-- the place behind a field, if what is left behind it is known: two past the end once something was wrong
+abbrev pub placeFor : List ℕ → ℕ → Fields → ℕ
+placeFor line from none = length line + 2
+placeFor line from (some others) = fieldAt line from .next
+
+-- the place behind the field that `f` reads
+unfoldable pub placeAfter : (List ℕ → Option ℕ) → List ℕ → ℕ → ℕ
+placeAfter f line from = placeFor line from (next f (left line from) .rest)
+
+-- the number or the set that the field at a place is, and the place behind it
+unfoldable pub numberAt : List ℕ → ℕ → NumberAt
+numberAt line from = record { value = next numberOf (left line from) .value; next = placeAfter numberOf line from }
+
+unfoldable pub setAt : List ℕ → ℕ → SetAt
+setAt line from = record { value = asSet (next setIn (left line from) .value); next = placeAfter setIn line from }

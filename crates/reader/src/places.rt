@@ -3,9 +3,8 @@
 ghost use mathlib.Core.Path.{_≡_};
 ghost use Prim.Native.Nat.{_≤_};
 ghost use lib.ListN.{length};
-ghost use Rattle.nodes.specs.Words.{num};
-ghost use Rattle.format.specs.Fields.{numberOf, setIn, wordIn, next};
-ghost use Rattle.reader.specs.Places.{left, FieldFound, TakenAt};
+ghost use Rattle.format.specs.Fields.{wordIn};
+ghost use Rattle.reader.specs.Places.{fieldAt, placeAfter, numberAt, setAt};
 use fields::Gathered;
 use fields::Numbered;
 use fields::bare;
@@ -34,7 +33,7 @@ pub struct SetAt {
 
 fn field_at(line: &[u8], from: usize) -> FieldAt
     requires { ⌜ from ≤ length (now line) ⌝ }
-    ensures { λ r. ⌜ FieldFound (now (line .entry)) from r ⌝ }
+    ensures { λ r. ⌜ r ≡ fieldAt (now (line .entry)) from ⌝ }
 {
     let end = find(line, from, b',');
     let part = bare(&line[from..end]);
@@ -47,7 +46,7 @@ fn field_at(line: &[u8], from: usize) -> FieldAt
 
 // The number that is the next field.
 pub fn number_at(line: &[u8], from: usize) -> NumberAt
-    ensures { λ r. ⌜ TakenAt numberOf (now (line .entry)) from (r .value) (r .next) ⌝ }
+    ensures { λ r. ⌜ r ≡ numberAt (now (line .entry)) from ⌝ }
 {
     let wrong = NumberAt {
         value: 0,
@@ -71,7 +70,7 @@ pub fn number_at(line: &[u8], from: usize) -> NumberAt
 
 // The set that is the next field.
 pub fn set_at(line: &[u8], from: usize) -> SetAt
-    ensures { λ r. ⌜ TakenAt setIn (now (line .entry)) from (num (r .value)) (r .next) ⌝ }
+    ensures { λ r. ⌜ r ≡ setAt (now (line .entry)) from ⌝ }
 {
     let nobody = Set::empty();
     let wrong = SetAt {
@@ -96,7 +95,7 @@ pub fn set_at(line: &[u8], from: usize) -> SetAt
 
 // Passes a word that must be the next field.
 pub fn word_at(line: &[u8], from: usize, word: &[u8]) -> usize
-    ensures { λ r. ⌜ left (now (line .entry)) r ≡ next (wordIn (now (word .entry))) (left (now (line .entry)) from) .rest ⌝ }
+    ensures { λ r. ⌜ r ≡ placeAfter (wordIn (now (word .entry))) (now (line .entry)) from ⌝ }
 {
     if line.len() < from {
         return line.len() + 2;

@@ -14,8 +14,10 @@ use Rattle.format.specs.Cut.{linesOf}
 use Rattle.format.specs.Fields.{numberOf, setIn, Fields, next}
 use Rattle.fields.specs.Ends.{upToEnd}
 use Rattle.fields.proofs.Finding.{lines-next, lines-none}
-use Rattle.reader.specs.Places.{left, TakenAt}
-use Rattle.reader.proofs.Taking.{left-here, left-far, left-start, done-at}
+use Rattle.reader.specs.declared.places.NumberAt.{NumberAt}
+use Rattle.reader.specs.declared.places.SetAt.{SetAt}
+use Rattle.reader.specs.Places.{left, numberAt, setAt}
+use Rattle.reader.proofs.Taking.{left-here, left-far, left-start, done-at, number-rest, set-rest}
 use Rattle.reasons.specs.Reasons.{readers, lost, firstWrong, wrongIn}
 
 -- ---- the line: it stands as far ahead of a place as it stands from the start, less the lines between
@@ -59,12 +61,12 @@ set-reader (suc (suc (suc (suc (suc (suc (suc c))))))) h = refl
 abbrev Passed : List ℕ → ℕ → ℕ → (List ℕ → Option ℕ) → Type 0
 Passed line from after f = left line after ≡ next f (left line from) .rest
 
-module _ (line : List ℕ) (from column : ℕ) {value after : ℕ} where
-  pub number-passed : column < 3 → TakenAt numberOf line from value after → Passed line from after (getD readers column setIn)
-  number-passed h t = t .rest ∙ ap (λ (f : List ℕ → Option ℕ). next f (left line from) .rest) (sym (number-reader column h))
+module _ (line : List ℕ) (from column : ℕ) where
+  pub number-passed : column < 3 → {n : NumberAt} → n ≡ numberAt line from → Passed line from (n .next) (getD readers column setIn)
+  number-passed h e = number-rest line from refl e ∙ ap (λ (f : List ℕ → Option ℕ). next f (left line from) .rest) (sym (number-reader column h))
 
-  pub set-passed : 3 ≤ column → TakenAt setIn line from value after → Passed line from after (getD readers column setIn)
-  set-passed h t = t .rest ∙ ap (λ (f : List ℕ → Option ℕ). next f (left line from) .rest) (sym (set-reader column h))
+  pub set-passed : 3 ≤ column → {s : SetAt} → s ≡ setAt line from → Passed line from (s .next) (getD readers column setIn)
+  set-passed h e = set-rest line from refl e ∙ ap (λ (f : List ℕ → Option ℕ). next f (left line from) .rest) (sym (set-reader column h))
 
 -- ---- all columns: those that were read, and what is left
 module _ (line : List ℕ) where

@@ -1,5 +1,4 @@
 -- `row` meets its contract. Assumes nothing.
-use mathlib.Core.Path.{refl}
 use borrow.Author.Needs.{needs}
 use Rattle.reader.proofs.Rows.{row-fields, row-node, row-is}
 use Rattle.reader.proofs.lines.row.Statement.{statement}
@@ -36,7 +35,7 @@ returns-2 : tie.Need-returns-2
 returns-2 c = row-node _ _ (c .before .before .before .before .before .before .before .before .before .before .number-at .ensures) (c .before .before .before .before .before .before .before .before .before .number-at2 .ensures) (c .before .before .before .before .before .before .before .before .number-at3 .ensures) (c .before .before .before .before .before .before .before .set-at .ensures) (c .before .before .before .before .before .before .set-at2 .ensures) (c .before .before .before .before .before .set-at3 .ensures) (c .before .before .before .before .set-at4 .ensures) (c .if2 .taken)
 
 returns-3 : tie.Need-returns-3
-returns-3 c = row-is _ _ (c .before .before .before .before .before .before .before .before .before .before .before .before .before .before .number-at .ensures) (c .before .before .before .before .before .before .before .before .before .before .before .before .before .number-at2 .ensures) (c .before .before .before .before .before .before .before .before .before .before .before .before .number-at3 .ensures) (c .before .before .before .before .before .before .before .before .before .before .before .set-at .ensures) (c .before .before .before .before .before .before .before .before .before .before .set-at2 .ensures) (c .before .before .before .before .before .before .before .before .before .set-at3 .ensures) (c .before .before .before .before .before .before .before .before .set-at4 .ensures) _ _ _ _ refl refl refl refl (c .before .before .before .before .before .before .if1 .left) (c .before .before .before .before .if2 .left)
+returns-3 c = row-is _ _ (c .before .before .before .before .before .before .before .before .before .before .before .before .before .before .number-at .ensures) (c .before .before .before .before .before .before .before .before .before .before .before .before .before .number-at2 .ensures) (c .before .before .before .before .before .before .before .before .before .before .before .before .number-at3 .ensures) (c .before .before .before .before .before .before .before .before .before .before .before .set-at .ensures) (c .before .before .before .before .before .before .before .before .before .before .set-at2 .ensures) (c .before .before .before .before .before .before .before .before .before .set-at3 .ensures) (c .before .before .before .before .before .before .before .before .set-at4 .ensures) (c .before .before .before .before .before .before .if1 .left) (c .before .before .before .before .if2 .left)
 
 pub row-spec : {M : Type 1} → statement M
 row-spec =
