@@ -23,6 +23,7 @@ use Rattle.reader.specs.declared.files.Lines.the-variants.{Broken as Lin
 use Rattle.reader.specs.declared.files.Outcome.{Outcome}
 use Rattle.reader.specs.declared.files.Outcome.the-variants.{Graph as Outcome·Graph, Line as Outcome·Line, Refused as Outcome·Refused}
 use Rattle.reader.specs.declared.files.File.{File}
+use Rattle.reader.specs.declared.files.Told.{Told}
 
 -- a line
 unfoldable pub rowSaid : Option Row → RowRead
@@ -60,3 +61,9 @@ graphJudged n stored =
     cond (ltb places n)
     (noGraph (Outcome·Refused (record { number = 1; row = record { 0 = 0 } })))
     (checkedAs n stored (checkOf n (take (n * rowSize) stored)))
+
+-- the number by which each outcome is known, with its line or row: 20 is the line's, a graph has its own, and one that isn't refused has none
+abbrev pub toldAs : Outcome → Told
+toldAs Outcome·Graph = record { number = 0; place = 0 }
+toldAs (Outcome·Line line) = record { number = 20; place = line }
+toldAs (Outcome·Refused r) = record { number = r .number; place = r .row .0 }

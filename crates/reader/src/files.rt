@@ -6,7 +6,7 @@ ghost use lib.Seq.{sets};
 ghost use Rattle.waits.specs.Rows.{rowSize, rowNumbers};
 ghost use Rattle.format.specs.Cut.{linesOf};
 ghost use Rattle.format.specs.Files.{rowsFrom, meantBy, readOf};
-ghost use Rattle.reader.specs.Answers.{numbers, LinesSay, noGraph, graphJudged, fileSaid};
+ghost use Rattle.reader.specs.Answers.{numbers, LinesSay, noGraph, graphJudged, fileSaid, toldAs};
 use crate::lines::RowRead;
 use crate::lines::header;
 use crate::lines::row;
@@ -32,10 +32,16 @@ pub enum Lines {
 pub enum Outcome {
     // The file says a graph that isn't refused.
     Graph,
-    // Number 20: the first line that breaks a rule, the header being 1.
+    // The first line that breaks a rule, the header being 1.
     Line(usize),
     // The graph's number, with its row.
     Refused(Refusal),
+}
+
+// What an outcome is known by outside: its number, and its line or row; 0 and 0 where nothing is refused.
+pub struct Told {
+    pub number: u64,
+    pub place: u64,
 }
 
 // What a file says. Unless it is a graph, there is no node, and every number is 0.
@@ -128,5 +134,27 @@ pub fn read_file(file: &[u8]) -> File
     match lines {
         Lines::Broken(line) => no_graph(Outcome::Line(line)),
         Lines::Rows(nodes) => judge(nodes, rows),
+    }
+}
+
+pub fn told_as(outcome: Outcome) -> Told
+    ensures { λ r. ⌜ r ≡ toldAs outcome ⌝ }
+{
+    match outcome {
+        Outcome::Graph => Told {
+            number: 0,
+            place: 0,
+        },
+        Outcome::Line(line) => Told {
+            number: 20,
+            place: line as u64,
+        },
+        Outcome::Refused(r) => {
+            let row = r.row;
+            Told {
+                number: r.number,
+                place: row.0 as u64,
+            }
+        }
     }
 }

@@ -23,7 +23,7 @@ use Rattle.waits.proofs.Table.{accepted-shaped}
 use Rattle.deadlock.specs.declared.claims.Found.{Found}
 use Rattle.deadlock.specs.declared.claims.Found.the-variants.{Nodes, Refused as Found·Refused}
 use Rattle.deadlock.specs.Claims.{FoundSays}
-use Rattle.text.specs.Text.{text, write}
+use Rattle.text.specs.Text.{Text, text, write}
 use Rattle.lines.specs.Lines.{refusedLine}
 use Rattle.format.specs.Files.{Meant, Said, judged, saidOf, meantBy, readOf}
 use Rattle.format.specs.Files.Meant.{Broken, Rows}
@@ -31,9 +31,15 @@ use Rattle.format.specs.Files.Said.{Line, Refused, Graph}
 use Rattle.reader.specs.declared.files.Outcome.{Outcome}
 use Rattle.reader.specs.declared.files.Outcome.the-variants.{Graph as Outcome·Graph, Line as Outcome·Line, Refused as Outcome·Refused}
 use Rattle.reader.specs.declared.files.File.{File}
-use Rattle.reader.specs.Answers.{numbers, zeros, noGraph, fileSaid}
-use Rattle.report.specs.Report.{longest, Input, inputOf, Stuck, nodeLines, Answers, inputIs, Answered}
+use Rattle.reader.specs.declared.files.Told.{Told}
+use Rattle.reader.specs.Answers.{numbers, zeros, noGraph, fileSaid, toldAs}
+use Rattle.report.specs.Report.{longest, Input, inputOf, Stuck, nodeLines, refusalLine, Answers, inputIs, Answered}
 use Rattle.report.specs.Report.Input.{TooLong, Says}
+
+-- ---- a refusal
+pub refusal-written : (o : Outcome) {t : Told} (found : List ℕ) {a : Text} → t ≡ toldAs o → a ≡ write (text found 0) (refusedLine (t .number) (t .place))
+    → a ≡ write (text found 0) (refusalLine o)
+refusal-written o found e w = w ∙ ap (λ (t : Told). write (text found 0) (refusedLine (t .number) (t .place))) e
 
 -- ---- a graph
 pub set-stuck : (n : ℕ) (rows : List ℕ) (s : ℕ) → ((k : ℕ) → In k s ↔ ((k < n) × Deadlocked (waitsOf n rows) k)) → Stuck n rows (members s)
@@ -48,10 +54,10 @@ module _ (n : ℕ) (rows found left : List ℕ) (end : ℕ) where
   judged-so c t e a w = record { answer = t; answers = subst (λ (x : Checked). Answers (Says (judged n rows x)) t) (sym e) a; written = w }
 
   module _ (x : Found) (says : FoundSays n rows x) where
-    pub graph-refused : {r : Refusal} → x ≡ Found·Refused r → text left end ≡ write (text found 0) (refusedLine (r .number) (r .row .0))
+    pub graph-refused : {r : Refusal} → x ≡ Found·Refused r → text left end ≡ write (text found 0) (refusalLine (Outcome·Refused r))
         → Answered (inputIs n rows) found left end
     unfolding Answers
-    graph-refused {r} e = judged-so (Checked·Refused r) (refusedLine (r .number) (r .row .0)) (subst (FoundSays n rows) e says) refl
+    graph-refused {r} e = judged-so (Checked·Refused r) (refusalLine (Outcome·Refused r)) (subst (FoundSays n rows) e says) refl
 
     pub graph-listed : {s : Set} → x ≡ Nodes s → text left end ≡ write (text found 0) (nodeLines (members (num s)))
         → Answered (inputIs n rows) found left end
@@ -116,14 +122,14 @@ module _ (bytes found left : List ℕ) (end : ℕ) where
     outcome : {o : Outcome} → f .outcome ≡ o → fileSaid (readOf bytes) .outcome ≡ o
     outcome e = sym (ap (λ (x : File). x .outcome) read) ∙ e
 
-    pub line-broken : {line : ℕ} → f .outcome ≡ Outcome·Line line → text left end ≡ write (text found 0) (refusedLine 20 line) → Answered (inputOf bytes) found left end
+    pub line-broken : {line : ℕ} → f .outcome ≡ Outcome·Line line → text left end ≡ write (text found 0) (refusalLine (Outcome·Line line)) → Answered (inputOf bytes) found left end
     unfolding Answers
-    line-broken {line} e w = answered (says (of-line _ line (outcome e))) (record { answer = refusedLine 20 line; answers = refl; written = w })
+    line-broken {line} e w = answered (says (of-line _ line (outcome e))) (record { answer = refusalLine (Outcome·Line line); answers = refl; written = w })
 
-    pub file-refused : {r : Refusal} → f .outcome ≡ Outcome·Refused r → text left end ≡ write (text found 0) (refusedLine (r .number) (r .row .0))
+    pub file-refused : {r : Refusal} → f .outcome ≡ Outcome·Refused r → text left end ≡ write (text found 0) (refusalLine (Outcome·Refused r))
         → Answered (inputOf bytes) found left end
     unfolding Answers
-    file-refused {r} e w = answered (says (of-refused _ r (outcome e))) (record { answer = refusedLine (r .number) (r .row .0); answers = refl; written = w })
+    file-refused {r} e w = answered (says (of-refused _ r (outcome e))) (record { answer = refusalLine (Outcome·Refused r); answers = refl; written = w })
 
 module _ (bytes : List ℕ) {f : File} (read : f ≡ fileSaid (readOf bytes)) (e : f .outcome ≡ Outcome·Graph) where
   graph : OfGraph (readOf bytes)

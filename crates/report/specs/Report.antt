@@ -15,6 +15,9 @@ use Rattle.text.specs.Text.{text, write}
 use Rattle.lines.specs.Lines.{refusedLine}
 use Rattle.format.specs.Files.{Said, judged, readOf}
 use Rattle.format.specs.Files.Said.{Line, Refused, Graph}
+use Rattle.reader.specs.declared.files.Outcome.{Outcome}
+use Rattle.reader.specs.declared.files.Outcome.the-variants.{Line as Outcome·Line, Refused as Outcome·Refused}
+use Rattle.reader.specs.Answers.{toldAs}
 
 -- a longer file is not looked into
 abbrev pub longest : ℕ
@@ -37,11 +40,15 @@ unfoldable pub nodeLines : List ℕ → List ℕ
 nodeLines [] = []
 nodeLines (k ∷ l) = decimal k ++ word "\n" ++ nodeLines l
 
--- the text that answers an input: a refusal gives its number and its line or row, and 0 where it has neither
+-- a refusal gives its number and its line or row
+abbrev pub refusalLine : Outcome → List ℕ
+refusalLine o = refusedLine (toldAs o .number) (toldAs o .place)
+
+-- the text that answers an input; 21 is of no line or row, and gives 0
 unfoldable pub Answers : Input → List ℕ → Type 0
 Answers TooLong t = t ≡ refusedLine 21 0
-Answers (Says (Line line)) t = t ≡ refusedLine 20 line
-Answers (Says (Refused r)) t = t ≡ refusedLine (r .number) (r .row .0)
+Answers (Says (Line line)) t = t ≡ refusalLine (Outcome·Line line)
+Answers (Says (Refused r)) t = t ≡ refusalLine (Outcome·Refused r)
 Answers (Says (Graph n rows)) t = (l : List ℕ) × Stuck n rows l × (t ≡ nodeLines l)
 
 -- the input that a file of these rows is

@@ -3,8 +3,7 @@ ghost use mathlib.Core.Path.{_≡_};
 ghost use Rattle.nodes.specs.Sets.{members};
 ghost use Rattle.nodes.specs.Words.{num};
 ghost use Rattle.text.specs.Text.{text, write};
-ghost use Rattle.lines.specs.Lines.{refusedLine};
-ghost use Rattle.report.specs.Report.{inputOf, nodeLines, inputIs, Answered};
+ghost use Rattle.report.specs.Report.{inputOf, nodeLines, refusalLine, inputIs, Answered};
 use deadlock::Found;
 use deadlock::all_deadlocked;
 use lines::refused;
@@ -12,10 +11,10 @@ use nodes::Set;
 use nodes::Smallest;
 use reader::Outcome;
 use reader::read_file;
+use reader::told_as;
 use text::number;
 use text::put;
 use waits::ROW;
-use waits::Refusal;
 
 // More bytes than a file may have are not looked into.
 pub const BYTES: usize = 65_536;
@@ -40,12 +39,12 @@ fn node_lines(room: &mut [u8], at: usize, s: Set) -> usize
     }
 }
 
-// The line of a graph's refusal.
-fn refused_graph(room: &mut [u8], r: Refusal) -> usize
-    ensures { λ x. ⌜ text (now (room .exit)) x ≡ write (text (now (room .entry)) 0) (refusedLine (r .number) (r .row .0)) ⌝ }
+// The line of a refusal.
+fn refusal(room: &mut [u8], outcome: Outcome) -> usize
+    ensures { λ r. ⌜ text (now (room .exit)) r ≡ write (text (now (room .entry)) 0) (refusalLine outcome) ⌝ }
 {
-    let row = r.row;
-    refused(room, 0, r.number, row.0 as u64)
+    let told = told_as(outcome);
+    refused(room, 0, told.number, told.place)
 }
 
 // What a graph is answered with.
@@ -54,7 +53,7 @@ fn graph(room: &mut [u8], nodes: usize, rows: &[u64]) -> usize
 {
     let found = all_deadlocked(nodes, rows);
     match found {
-        Found::Refused(r) => refused_graph(room, r),
+        Found::Refused(r) => refusal(room, Outcome::Refused(r)),
         Found::Nodes(s) => node_lines(room, 0, s),
     }
 }
@@ -69,8 +68,8 @@ pub fn report(file: &[u8], room: &mut [u8]) -> usize
     let said = read_file(file);
     let outcome = said.outcome;
     match outcome {
-        Outcome::Line(line) => refused(room, 0, 20, line as u64),
-        Outcome::Refused(r) => refused_graph(room, r),
+        Outcome::Line(line) => refusal(room, Outcome::Line(line)),
+        Outcome::Refused(r) => refusal(room, Outcome::Refused(r)),
         Outcome::Graph => {
             let nodes = said.nodes;
             let rows = said.rows;

@@ -10,8 +10,8 @@ all-deadlocked-requires c κs = search needs
 enum-known-found : tie.Need-enum-known-found
 enum-known-found c = search needs
 
-refused-graph-requires : tie.Need-refused-graph-requires
-refused-graph-requires c κs = search needs
+refusal-requires : tie.Need-refusal-requires
+refusal-requires c κs = search needs
 
 enum-known-found-2 : tie.Need-enum-known-found-2
 enum-known-found-2 c = search needs
@@ -23,7 +23,7 @@ same-length : tie.Need-same-length
 same-length c = search needs
 
 returns : tie.Need-returns
-returns c = graph-refused _ _ _ _ _ _ (c .before .before .before .before .before .before .before .all-deadlocked .ensures) (c .before .before .before .before .before .found .given .1) (c .before .before .refused-graph .ensures)
+returns c = graph-refused _ _ _ _ _ _ (c .before .before .before .before .before .before .before .all-deadlocked .ensures) (c .before .before .before .before .before .found .given .1) (c .before .before .refusal .ensures)
 
 same-length-2 : tie.Need-same-length-2
 same-length-2 c = search needs
@@ -37,7 +37,7 @@ graph-spec =
     (tie.spec
     all-deadlocked-requires
     enum-known-found
-    refused-graph-requires
+    refusal-requires
     enum-known-found-2
     node-lines-requires
     same-length

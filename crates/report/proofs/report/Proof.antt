@@ -22,14 +22,14 @@ read-file-requires c κs = search needs
 enum-known-outcome : tie.Need-enum-known-outcome
 enum-known-outcome c = search needs
 
-refused-requires-2 : tie.Need-refused-requires-2
-refused-requires-2 c κs = search needs
+refusal-requires : tie.Need-refusal-requires
+refusal-requires c κs = search needs
 
 enum-known-outcome-2 : tie.Need-enum-known-outcome-2
 enum-known-outcome-2 c = search needs
 
-refused-graph-requires : tie.Need-refused-graph-requires
-refused-graph-requires c κs = search needs
+refusal-requires-2 : tie.Need-refusal-requires-2
+refusal-requires-2 c κs = search needs
 
 enum-told : tie.Need-enum-told
 enum-told c = search needs
@@ -50,13 +50,13 @@ same-length-2 : tie.Need-same-length-2
 same-length-2 c = search needs
 
 returns-2 : tie.Need-returns-2
-returns-2 c = line-broken (c .before .before .before .before .before .before .before .before .before .before .before .args .file .now) _ _ _ (omega arith) (c .before .before .before .before .before .before .before .read-file .ensures) (c .before .before .before .before .before .outcome .given .1) (c .before .before .refused2 .ensures)
+returns-2 c = line-broken (c .before .before .before .before .before .before .before .before .before .before .before .args .file .now) _ _ _ (omega arith) (c .before .before .before .before .before .before .before .read-file .ensures) (c .before .before .before .before .before .outcome .given .1) (c .before .before .refusal .ensures)
 
 same-length-3 : tie.Need-same-length-3
 same-length-3 c = search needs
 
 returns-3 : tie.Need-returns-3
-returns-3 c = file-refused (c .before .before .before .before .before .before .before .before .before .before .before .args .file .now) _ _ _ (omega arith) (c .before .before .before .before .before .before .before .read-file .ensures) (c .before .before .before .before .before .outcome2 .given .1) (c .before .before .refused-graph .ensures)
+returns-3 c = file-refused (c .before .before .before .before .before .before .before .before .before .before .before .args .file .now) _ _ _ (omega arith) (c .before .before .before .before .before .before .before .read-file .ensures) (c .before .before .before .before .before .outcome2 .given .1) (c .before .before .refusal2 .ensures)
 
 same-length-4 : tie.Need-same-length-4
 same-length-4 c = search needs
@@ -73,9 +73,9 @@ report-spec =
     returns
     read-file-requires
     enum-known-outcome
-    refused-requires-2
+    refusal-requires
     enum-known-outcome-2
-    refused-graph-requires
+    refusal-requires-2
     enum-told
     mul-size
     array-share-prefix-rows
