@@ -1,0 +1,6 @@
+-- Where a byte and a line stand, the walks along a field and a line, and that what is said of them is so.
+pub mod Standing
+pub mod Judging
+pub mod Walking
+pub mod Agreeing
+pub mod Rows
