@@ -2,8 +2,8 @@
 // words to standard error.
 ghost use mathlib.Core.Path.{_≡_};
 ghost use lib.ListN.{length};
-use reasons::WORDS;
 use reasons::reasons;
+use reasons::room as words_room;
 use report::TEXT;
 use report::report;
 
@@ -15,13 +15,6 @@ fn text_room() -> [u8; TEXT]
     ensures { λ r. ⌜ 192 ≡ length r ⌝ }
 {
     [0; TEXT]
-}
-
-// Room for any reason.
-fn words_room() -> [u8; WORDS]
-    ensures { λ r. ⌜ 99 ≡ length r ⌝ }
-{
-    [0; WORDS]
 }
 
 fn main() {

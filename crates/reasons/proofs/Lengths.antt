@@ -1,4 +1,4 @@
--- How long a reason can be: 99 bytes. Assumes nothing.
+-- How long a reason can be. Assumes nothing.
 use mathlib.Core.Path.{_≡_}
 use mathlib.Core.Bool.{true, false, _&&_}
 use mathlib.Core.Logic.{⊎-elim}
@@ -7,30 +7,35 @@ use Prim.Native.Nat.{ℕ, zero, suc, _+_, _-_, _≤_, _<_}
 use Prim.Native.String.{String}
 use native.Mathlib.Omega.{arith}
 use lib.Dec.{leb, ltb, eqb}
-use lib.ListN.{length, getD, drop}
+use lib.ListN.{length, drop}
 use borrow.Author.Tests.{ltb-false}
 use Rattle.lemmas.proofs.Cases.{both-branches}
 use Rattle.lemmas.proofs.Tests.{true-or-false}
+use Rattle.nodes.specs.Words.{places}
 use Rattle.waits.specs.declared.numbers.Refusal.{Refusal}
-use Rattle.waits.specs.Numbers.{line}
 use Rattle.text.specs.Words.{word, decimal}
 use Rattle.text.specs.Text.{text, write}
 use Rattle.text.proofs.Writing.{write-fits}
-use Rattle.text.proofs.Decimal.{decimal-five}
-use Rattle.format.specs.Cut.{linesOf}
+use Rattle.text.proofs.Decimal.{decimal-two, decimal-five}
 use Rattle.format.specs.Files.{Said, readOf}
 use Rattle.format.specs.Files.Said.{Line as Said·Line, Refused, Graph}
 use Rattle.lines.proofs.Lengths.{joined}
+use Rattle.faults.specs.declared.flaws.Flaw.{Flaw}
+use Rattle.faults.specs.declared.flaws.Flaw.the-variants.{Missing, Empty, NoDigit, PastBits, Spaces, Strange, NoPlace, Twice, Descends}
+use Rattle.faults.specs.declared.Fault.{Fault}
+use Rattle.faults.specs.declared.Fault.the-variants.{EmptyFile, Mark, NoHeader, BareLf, Semicolons, Column, MoreFields, NotNext}
+use Rattle.faults.specs.Faults.{faultOf}
 use Rattle.report.specs.Report.{longest, inputOf}
 use Rattle.report.proofs.Small.{SmallSaid, read-small}
 use Rattle.report.specs.Report.Input.{TooLong, Says}
-use Rattle.reasons.specs.Reasons.{columnWords, wrongIn, wrongWords, lineReason, wordsIn, numberTable, numberWords, placeWords, graphReason, reasonFor, reasonOf}
+use Rattle.reasons.specs.Reasons.{longestReason, columnName, flawWords, ofLine, faultWords, lineReason, wordsIn, numberTable, numberWords, placeWords, graphReason, reasonFor, reasonOf}
+use Rattle.reasons.proofs.Placed.{Placed, read-placed}
 
 abbrev AtMost : ℕ → List ℕ → Type 0
 AtMost n l = length l ≤ n
 
-column-length : (column : ℕ) → AtMost 78 (columnWords column)
-unfolding columnWords word
+column-length : (column : ℕ) → AtMost 9 (columnName column)
+unfolding word
 column-length zero = omega arith
 column-length (suc zero) = omega arith
 column-length (suc (suc zero)) = omega arith
@@ -38,31 +43,54 @@ column-length (suc (suc (suc zero))) = omega arith
 column-length (suc (suc (suc (suc zero)))) = omega arith
 column-length (suc (suc (suc (suc (suc zero))))) = omega arith
 column-length (suc (suc (suc (suc (suc (suc zero)))))) = omega arith
-column-length (suc (suc (suc (suc (suc (suc (suc c))))))) =
-    both-branches (AtMost 78) (ltb (suc (suc (suc (suc (suc (suc (suc c))))))) 3) (omega arith) (omega arith)
+column-length (suc (suc (suc (suc (suc (suc (suc c))))))) = omega arith
 
-wrong-length : (node wrong : ℕ) → node < 100000 → AtMost 78 (wrongWords node wrong)
-unfolding wrongWords word
-wrong-length node wrong h =
-    both-branches (AtMost 78) (ltb wrong 7) (column-length wrong)
-    (both-branches (AtMost 78) (eqb wrong 7) (omega arith)
-    (let l = joined (word "its node isn't " ++ decimal node) (word ", the next one") 20 14
-    (joined (word "its node isn't ") (decimal node) 15 5 (omega arith) (decimal-five node h))
-    (omega arith) in omega arith))
+flaw-length : (f : Flaw) → AtMost 52 (flawWords f)
+unfolding flawWords word
+flaw-length Missing = omega arith
+flaw-length Empty = omega arith
+flaw-length NoDigit = omega arith
+flaw-length PastBits = omega arith
+flaw-length Spaces = omega arith
+flaw-length Strange = omega arith
+flaw-length NoPlace = let l = joined (word " has a member over ") (decimal (places - 1)) 19 2 (omega arith) (decimal-two (places - 1) (omega arith)) in omega arith
+flaw-length Twice = omega arith
+flaw-length Descends = omega arith
 
-line-length : (bytes : List ℕ) (n : ℕ) → n < 100000 → AtMost 99 (lineReason bytes n)
+of-length : (line : ℕ) (words : List ℕ) (n : ℕ) → line < 100000 → AtMost n words → AtMost (10 + n) (ofLine line words)
+unfolding word
+of-length line words n h l =
+    joined (word "line " ++ decimal line) words 10 n (joined (word "line ") (decimal line) 5 5 (omega arith) (decimal-five line h)) l
+
+fault-length : (line : ℕ) (f : Fault) → line < 100000 → AtMost 84 (faultWords line f)
+unfolding faultWords word
+fault-length line EmptyFile h = omega arith
+fault-length line Mark h = omega arith
+fault-length line NoHeader h = let l = of-length line (word " isn't the header node,kind,threshold,set1,set2,set3,set4") 57 h (omega arith) in omega arith
+fault-length line BareLf h = let l = of-length line (word " ends in LF where CR LF is wanted") 33 h (omega arith) in omega arith
+fault-length line Semicolons h = let l = of-length line (word ": its fields are separated by semicolons where commas are wanted") 64 h (omega arith) in omega arith
+fault-length line (Column column f) h =
+    let p : List ℕ = ofLine line (word ": ") in
+    let l = joined (p ++ columnName column) (flawWords f) 21 52
+    (joined p (columnName column) 12 9 (of-length line (word ": ") 2 h (omega arith)) (column-length column))
+    (flaw-length f) in
+    omega arith
+fault-length line MoreFields h = let l = of-length line (word ": it has more than seven fields") 31 h (omega arith) in omega arith
+fault-length line NotNext h =
+    let p : List ℕ = ofLine line (word ": its node isn't ") in
+    let l = joined (p ++ decimal (line - 2)) (word ", the next one") 32 14
+    (joined p (decimal (line - 2)) 27 5 (of-length line (word ": its node isn't ") 17 h (omega arith)) (decimal-five (line - 2) (omega arith)))
+    (omega arith) in
+    omega arith
+
+line-length : (bytes : List ℕ) (n : ℕ) → n < 100000 → AtMost longestReason (lineReason bytes n)
 unfolding lineReason word
 line-length bytes n h =
-    let wrong = wrongIn (getD (linesOf bytes) (n - 1) []) in
-    let p₁ : List ℕ = word "claims: line " ++ decimal n in
-    let p₂ : List ℕ = p₁ ++ word ": " in
-    let p₃ : List ℕ = p₂ ++ wrongWords (n - 2) wrong in
-    both-branches (AtMost 99) (ltb n 2) (omega arith)
-    (joined p₃ (word "\n") 98 1
-    (joined p₂ (wrongWords (n - 2) wrong) 20 78
-    (joined p₁ (word ": ") 18 2 (joined (word "claims: line ") (decimal n) 13 5 (omega arith) (decimal-five n h)) (omega arith))
-    (wrong-length (n - 2) wrong (omega arith)))
-    (omega arith))
+    let p : List ℕ = word "claims: " ++ faultWords n (faultOf bytes n) in
+    let l = joined p (word "\n") 92 1
+    (joined (word "claims: ") (faultWords n (faultOf bytes n)) 8 84 (omega arith) (fault-length n (faultOf bytes n) h))
+    (omega arith) in
+    omega arith
 
 -- the words of a number are at most as long as the longest of the table
 abbrev Short : List (ℕ × String) → Type 0
@@ -80,43 +108,43 @@ number-length number =
     (omega arith, (omega arith, (omega arith, (omega arith, (omega arith, (omega arith, (omega arith, tt)))))))
     (omega arith)
 
-place-length : (number row : ℕ) → row < 100000 → AtMost 11 (placeWords number row)
+place-length : (number row : ℕ) → row < places → AtMost 8 (placeWords number row)
 unfolding placeWords word
 place-length number row h =
-    both-branches (AtMost 11) (leb 2 number && leb number 7)
-    (joined (word "row " ++ decimal row) (word ": ") 9 2 (joined (word "row ") (decimal row) 4 5 (omega arith) (decimal-five row h)) (omega arith))
+    both-branches (AtMost 8) (leb 2 number && leb number 7)
+    (joined (word "row " ++ decimal row) (word ": ") 6 2 (joined (word "row ") (decimal row) 4 2 (omega arith) (decimal-two row (omega arith))) (omega arith))
     (omega arith)
 
-graph-length : (r : Refusal) → r .row .0 < 100000 → AtMost 99 (graphReason r)
+graph-length : (r : Refusal) → r .row .0 < places → AtMost longestReason (graphReason r)
 unfolding graphReason word
 graph-length r h =
     let p₁ : List ℕ = word "claims: " ++ placeWords (r .number) (r .row .0) in
     let p₂ : List ℕ = p₁ ++ numberWords (r .number) in
-    let l = joined p₂ (word "\n") 98 1
-    (joined p₁ (numberWords (r .number)) 19 79 (joined (word "claims: ") (placeWords (r .number) (r .row .0)) 8 11 (omega arith) (place-length (r .number) (r .row .0) h)) (number-length (r .number)))
+    let l = joined p₂ (word "\n") 95 1
+    (joined p₁ (numberWords (r .number)) 16 79 (joined (word "claims: ") (placeWords (r .number) (r .row .0)) 8 8 (omega arith) (place-length (r .number) (r .row .0) h)) (number-length (r .number)))
     (omega arith) in
     omega arith
 
 -- ---- a reason
-for-length : (bytes : List ℕ) (s : Said) → SmallSaid s → AtMost 99 (reasonFor bytes (Says s))
+for-length : (bytes : List ℕ) (s : Said) → SmallSaid s → Placed s → AtMost longestReason (reasonFor bytes (Says s))
 unfolding reasonFor
-for-length bytes (Said·Line n) h = line-length bytes n h
-for-length bytes (Refused r) h = graph-length r (h .1)
-for-length bytes (Graph n rows) h = omega arith
+for-length bytes (Said·Line n) h p = line-length bytes n h
+for-length bytes (Refused r) h p = graph-length r p
+for-length bytes (Graph n rows) h p = omega arith
 
-long-length : (bytes : List ℕ) → AtMost 99 (reasonFor bytes TooLong)
+long-length : (bytes : List ℕ) → AtMost longestReason (reasonFor bytes TooLong)
 unfolding reasonFor word
 long-length bytes = omega arith
 
-pub reason-length : (bytes : List ℕ) → length (reasonOf bytes) ≤ 99
+pub reason-length : (bytes : List ℕ) → length (reasonOf bytes) ≤ longestReason
 unfolding reasonOf inputOf
 reason-length bytes =
     ⊎-elim
     (λ (e : ltb longest (length bytes) ≡ true). rw e (long-length bytes))
-    (λ (e : ltb longest (length bytes) ≡ false). rw e (for-length bytes (readOf bytes) (read-small bytes (ltb-false longest (length bytes) e))))
+    (λ (e : ltb longest (length bytes) ≡ false). rw e (for-length bytes (readOf bytes) (read-small bytes (ltb-false longest (length bytes) e)) (read-placed bytes)))
     (true-or-false (ltb longest (length bytes)))
 
 -- so in that many bytes it stands whole
-pub reason-whole : (bytes lent : List ℕ) → 99 ≤ length lent
+pub reason-whole : (bytes lent : List ℕ) → longestReason ≤ length lent
     → write (text lent 0) (reasonOf bytes) ≡ text (reasonOf bytes ++ drop (length (reasonOf bytes)) lent) (length (reasonOf bytes))
 reason-whole bytes lent h = write-fits lent (reasonOf bytes) (omega (arith, reason-length bytes))

@@ -2,24 +2,25 @@
 use mathlib.Core.Path.{_≡_, refl, sym, ap, _∙_}
 use mathlib.Core.Bool.{false, _&&_}
 use mathlib.Core.List.{List, [], _++_}
-use Prim.Native.Nat.{ℕ, _-_, _≤_, _<_}
+use Prim.Native.Nat.{ℕ, _≤_, _<_}
 use lib.Dec.{leb}
-use lib.ListN.{length, getD}
+use lib.ListN.{length}
 use borrow.Author.Tests.{lt-ltb, le-ltb, lt-leb}
 use Rattle.lemmas.proofs.Cases.{at-true, at-false}
 use Rattle.lemmas.proofs.Tests.{and-first, and-later}
 use Rattle.text.specs.Text.{Text, write}
 use Rattle.text.specs.Words.{word, decimal}
-use Rattle.format.specs.Cut.{linesOf}
 use Rattle.format.specs.Files.{Said, readOf}
 use Rattle.format.specs.Files.Said.{Line, Refused, Graph}
+use Rattle.faults.specs.declared.flaws.Flaw.{Flaw}
+use Rattle.faults.specs.declared.Fault.{Fault}
 use Rattle.reader.specs.declared.files.Outcome.{Outcome}
 use Rattle.reader.specs.declared.files.Outcome.the-variants.{Graph as Outcome·Graph, Line as Outcome·Line, Refused as Outcome·Refused}
 use Rattle.reader.specs.declared.files.File.{File}
 use Rattle.reader.specs.Answers.{noGraph, fileSaid}
 use Rattle.report.specs.Report.{longest, Input, inputOf}
 use Rattle.report.specs.Report.Input.{Says}
-use Rattle.reasons.specs.Reasons.{wrongIn, wrongWords, lineReason, placeWords, graphReason, reasonFor, reasonOf}
+use Rattle.reasons.specs.Reasons.{flawWords, faultWords, lineReason, placeWords, graphReason, reasonFor, reasonOf}
 
 -- a number that is of no row
 module _ (t : Text) (number row : ℕ) where
@@ -33,20 +34,12 @@ module _ (t : Text) (number row : ℕ) where
   pub high-placed : 7 < number → t ≡ write t (placeWords number row)
   high-placed h = none-placed (and-later (leb 2 number) (lt-leb number 7 h))
 
--- ---- a line that breaks a rule: the header, and another
-module _ (bytes : List ℕ) (line : ℕ) (t : Text) {u : Text} where
-  pub header-said : line < 2 → u ≡ write t (word "claims: line 1 isn't the header node,kind,threshold,set1,set2,set3,set4\n") → u ≡ write t (lineReason bytes line)
-  unfolding lineReason
-  header-said h e = e ∙ ap (write t) (at-true _ (lt-ltb line 2 h) refl)
+-- an arm of a match on what is wrong
+pub in-flaw : (t : Text) {u : Text} {x key : Flaw} → x ≡ key → u ≡ write t (flawWords key) → u ≡ write t (flawWords x)
+in-flaw t e h = h ∙ ap (λ (f : Flaw). write t (flawWords f)) (sym e)
 
-  pub line-said : {part : List ℕ} (wrong : ℕ) → 2 ≤ line → part ≡ getD (linesOf bytes) (line - 1) [] → wrong ≡ wrongIn part
-      → u ≡ write t (word "claims: line " ++ decimal line ++ word ": " ++ wrongWords (line - 2) wrong ++ word "\n") → u ≡ write t (lineReason bytes line)
-  unfolding lineReason
-  line-said wrong h p w e =
-      e
-      ∙ ap (write t)
-      (at-false _ (le-ltb line 2 h)
-      (ap (λ (x : ℕ). word "claims: line " ++ decimal line ++ word ": " ++ wrongWords (line - 2) x ++ word "\n") (w ∙ ap wrongIn p)))
+pub in-fault : (line : ℕ) (t : Text) {u : Text} {x key : Fault} → x ≡ key → u ≡ write t (faultWords line key) → u ≡ write t (faultWords line x)
+in-fault line t e h = h ∙ ap (λ (f : Fault). write t (faultWords line f)) (sym e)
 
 -- ---- a file
 abbrev pub outcomeReason : List ℕ → Outcome → List ℕ

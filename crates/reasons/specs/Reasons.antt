@@ -1,65 +1,61 @@
 -- The line that says in plain words why a file of waits is refused. Assumes nothing.
-use mathlib.Core.Bool.{Bool, true, false, cond, _&&_}
+use mathlib.Core.Bool.{cond, _&&_}
 use mathlib.Core.List.{List, [], _∷_, _++_}
-use mathlib.Core.Option.{Option, none, some}
-use Prim.Native.Nat.{ℕ, suc, _-_}
+use Prim.Native.Nat.{ℕ, _-_}
 use Prim.Native.String.{String}
-use lib.Dec.{leb, ltb, eqb}
+use lib.Dec.{leb, eqb}
 use lib.ListN.{getD}
+use Rattle.nodes.specs.Words.{places}
 use Rattle.waits.specs.declared.numbers.Refusal.{Refusal}
 use Rattle.text.specs.Words.{word, decimal}
-use Rattle.format.specs.Cut.{linesOf}
-use Rattle.format.specs.Fields.{numberOf, setIn, Fields, next, done}
-use Rattle.format.specs.Files.{fields, headings}
+use Rattle.format.specs.Files.{headings}
 use Rattle.format.specs.Files.Said.{Line, Refused, Graph}
+use Rattle.faults.specs.declared.flaws.Flaw.{Flaw}
+use Rattle.faults.specs.declared.flaws.Flaw.the-variants.{Missing, Empty, NoDigit, PastBits, Spaces, Strange, NoPlace, Twice, Descends}
+use Rattle.faults.specs.declared.Fault.{Fault}
+use Rattle.faults.specs.declared.Fault.the-variants.{EmptyFile, Mark, NoHeader, BareLf, Semicolons, Column, MoreFields, NotNext}
+use Rattle.faults.specs.Faults.{faultOf}
 use Rattle.report.specs.Report.{Input, inputOf}
 use Rattle.report.specs.Report.Input.{TooLong, Says}
 
+-- no reason is longer
+abbrev pub longestReason : ℕ
+longestReason = 96
+
 -- ---- a line that breaks a rule
 
--- how the seven columns are read: three numbers and four sets
-abbrev pub readers : List (List ℕ → Option ℕ)
-readers = numberOf ∷ numberOf ∷ numberOf ∷ setIn ∷ setIn ∷ setIn ∷ setIn ∷ []
+-- a column, by the name that the header has for it; the last is set4
+abbrev pub columnName : ℕ → List ℕ
+columnName column = getD headings column (word "set4")
 
--- something was wrong
-abbrev pub lost : Fields → Bool
-lost none = true
-lost (some ws) = false
+-- what is wrong with a column; the nodes that a set has places for are those below `places`
+unfoldable pub flawWords : Flaw → List ℕ
+flawWords Missing = word " is missing"
+flawWords Empty = word " is empty"
+flawWords NoDigit = word " has a character that isn't a digit"
+flawWords PastBits = word " is past 64 bits"
+flawWords Spaces = word " has a space too many"
+flawWords Strange = word " has a character that is neither a digit nor a space"
+flawWords NoPlace = word " has a member over " ++ decimal (places - 1)
+flawWords Twice = word " has a member twice"
+flawWords Descends = word " isn't ascending"
 
--- how many readers take their fields before the first that can't; if each can, their count where a field is left, else one more
-unfoldable pub firstWrong : List (List ℕ → Option ℕ) → Fields → ℕ
-firstWrong [] fs = cond (done fs) 1 0
-firstWrong (f ∷ l) fs = cond (lost (next f fs .rest)) 0 (suc (firstWrong l (next f fs .rest)))
+abbrev pub ofLine : ℕ → List ℕ → List ℕ
+ofLine line words = word "line " ++ decimal line ++ words
 
--- What is wrong with a line: 0 to 6 is its first column that is missing or can't be read, 7 is a field too many, 8 neither.
-unfoldable pub wrongIn : List ℕ → ℕ
-wrongIn line = firstWrong readers (fields line)
+-- what is wrong with a line; line k + 2 is that of node k
+unfoldable pub faultWords : (line : ℕ) → Fault → List ℕ
+faultWords line EmptyFile = word "the file is empty; line 1 must be the header node,kind,threshold,set1,set2,set3,set4"
+faultWords line Mark = word "the file begins with a byte-order mark, which is no part of the header"
+faultWords line NoHeader = ofLine line (word " isn't the header node,kind,threshold,set1,set2,set3,set4")
+faultWords line BareLf = ofLine line (word " ends in LF where CR LF is wanted")
+faultWords line Semicolons = ofLine line (word ": its fields are separated by semicolons where commas are wanted")
+faultWords line (Column column f) = ofLine line (word ": ") ++ columnName column ++ flawWords f
+faultWords line MoreFields = ofLine line (word ": it has more than seven fields")
+faultWords line NotNext = ofLine line (word ": its node isn't ") ++ decimal (line - 2) ++ word ", the next one"
 
--- a column, by the name that the header has for it
-unfoldable pub columnWords : ℕ → List ℕ
-columnWords column =
-    getD headings column []
-    ++ cond (ltb column 3)
-    (word " is missing or is no number of at most 64 bits")
-    (word " is missing or is no set: nodes up to 63, ascending, one space between two")
-
--- a line that has all its columns and no field more is no row only if its node isn't the next
-unfoldable pub wrongWords : (node wrong : ℕ) → List ℕ
-wrongWords node wrong =
-    cond (ltb wrong 7) (columnWords wrong)
-    (cond (eqb wrong 7) (word "it has more than seven fields")
-    (word "its node isn't " ++ decimal node ++ word ", the next one"))
-
--- Line 1 is the header, and line k + 2 is that of node k. There is no line 0.
 unfoldable pub lineReason : List ℕ → ℕ → List ℕ
-lineReason bytes line =
-    cond (ltb line 2)
-    (word "claims: line 1 isn't the header node,kind,threshold,set1,set2,set3,set4\n")
-    (word "claims: line "
-    ++ decimal line
-    ++ word ": "
-    ++ wrongWords (line - 2) (wrongIn (getD (linesOf bytes) (line - 1) []))
-    ++ word "\n")
+lineReason bytes line = word "claims: " ++ faultWords line (faultOf bytes line) ++ word "\n"
 
 -- ---- a graph that is refused
 

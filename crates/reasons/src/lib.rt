@@ -1,44 +1,37 @@
 // Why a file of waits is refused, as one line of plain words.
 ghost use mathlib.Core.Path.{_≡_};
+ghost use lib.ListN.{length};
 ghost use Rattle.text.specs.Text.{text, write};
-ghost use Rattle.reasons.specs.Reasons.{lineReason, graphReason, reasonOf};
-use crate::finding::line_at;
-use crate::finding::wrong_in;
+ghost use Rattle.reasons.specs.Reasons.{longestReason, lineReason, graphReason, reasonOf};
+use crate::words::fault_words;
 use crate::words::number_words;
 use crate::words::place_words;
-use crate::words::wrong_words;
+use faults::fault_of;
 use reader::Outcome;
 use reader::read_file;
 use report::BYTES;
 use text::bytes;
-use text::number as decimal;
 use waits::Refusal;
 
-mod finding;
 mod words;
 
 // No such line is longer.
-pub const WORDS: usize = 99;
+pub const WORDS: usize = 96;
+
+// Room for any reason.
+pub fn room() -> [u8; WORDS]
+    ensures { λ r. ⌜ length r ≡ longestReason ⌝ }
+{
+    [0; WORDS]
+}
 
 // A line that breaks a rule.
 fn line_reason(file: &[u8], line: usize, room: &mut [u8]) -> usize
     ensures { λ r. ⌜ text (now (room .exit)) r ≡ write (text (now (room .entry)) 0) (lineReason (now (file .entry)) line) ⌝ }
 {
-    if line < 2 {
-        return bytes(
-            room,
-            0,
-            b"claims: line 1 isn't the header node,kind,threshold,set1,set2,set3,set4\n",
-        );
-    }
-    let part = line_at(file, line - 1);
-    let start = part.start;
-    let end = part.end;
-    let wrong = wrong_in(&file[start..end]);
-    let mut at = bytes(room, 0, b"claims: line ");
-    at = decimal(room, at, line as u64);
-    at = bytes(room, at, b": ");
-    at = wrong_words(room, at, (line - 2) as u64, wrong);
+    let fault = fault_of(file, line);
+    let mut at = bytes(room, 0, b"claims: ");
+    at = fault_words(room, at, line, fault);
     bytes(room, at, b"\n")
 }
 

@@ -1,20 +1,17 @@
 // The words for what is wrong with a line or with a graph, written into lent bytes.
 ghost use mathlib.Core.Path.{_≡_};
-ghost use mathlib.Core.List.{[]};
-ghost use Prim.Native.Nat.{_<_};
-ghost use lib.ListN.{getD};
-ghost use Rattle.format.specs.Files.{headings};
+ghost use Prim.Native.Nat.{_-_};
 ghost use Rattle.text.specs.Text.{text, write};
-ghost use Rattle.reasons.specs.Reasons.{columnWords, wrongWords, numberWords, placeWords};
-use crate::finding::COLUMNS;
-use crate::finding::NUMBERS;
+ghost use Rattle.reasons.specs.Reasons.{columnName, flawWords, ofLine, faultWords, numberWords, placeWords};
+use faults::Fault;
+use faults::Flaw;
+use nodes::PLACES;
 use text::bytes;
 use text::number as decimal;
 
 // A column's name.
 fn column_name(room: &mut [u8], at: usize, column: usize) -> usize
-    requires { ⌜ column < 7 ⌝ }
-    ensures { λ r. ⌜ text (now (room .exit)) r ≡ write (text (now (room .entry)) at) (getD headings column []) ⌝ }
+    ensures { λ r. ⌜ text (now (room .exit)) r ≡ write (text (now (room .entry)) at) (columnName column) ⌝ }
 {
     match column {
         0 => bytes(room, at, b"node"),
@@ -27,35 +24,89 @@ fn column_name(room: &mut [u8], at: usize, column: usize) -> usize
     }
 }
 
-// A column that is missing or can't be read.
-fn column_words(room: &mut [u8], at: usize, column: usize) -> usize
-    requires { ⌜ column < 7 ⌝ }
-    ensures { λ r. ⌜ text (now (room .exit)) r ≡ write (text (now (room .entry)) at) (columnWords column) ⌝ }
+// What is wrong with a column.
+fn flaw_words(room: &mut [u8], at: usize, f: Flaw) -> usize
+    ensures { λ r. ⌜ text (now (room .exit)) r ≡ write (text (now (room .entry)) at) (flawWords f) ⌝ }
 {
-    let end = column_name(room, at, column);
-    if column < NUMBERS {
-        return bytes(room, end, b" is missing or is no number of at most 64 bits");
+    match f {
+        Flaw::Missing => bytes(room, at, b" is missing"),
+        Flaw::Empty => bytes(room, at, b" is empty"),
+        Flaw::NoDigit => bytes(room, at, b" has a character that isn't a digit"),
+        Flaw::PastBits => bytes(room, at, b" is past 64 bits"),
+        Flaw::Spaces => bytes(room, at, b" has a space too many"),
+        Flaw::Strange => bytes(
+            room,
+            at,
+            b" has a character that is neither a digit nor a space",
+        ),
+        Flaw::NoPlace => {
+            let end = bytes(room, at, b" has a member over ");
+            decimal(room, end, (PLACES - 1) as u64)
+        }
+        Flaw::Twice => bytes(room, at, b" has a member twice"),
+        Flaw::Descends => bytes(room, at, b" isn't ascending"),
     }
-    bytes(
-        room,
-        end,
-        b" is missing or is no set: nodes up to 63, ascending, one space between two",
-    )
 }
 
-// What is wrong with the line of a node.
-pub fn wrong_words(room: &mut [u8], at: usize, node: u64, wrong: usize) -> usize
-    ensures { λ r. ⌜ text (now (room .exit)) r ≡ write (text (now (room .entry)) at) (wrongWords node wrong) ⌝ }
+// A line's number, and words behind it.
+fn of_line(room: &mut [u8], at: usize, line: usize, words: &[u8]) -> usize
+    ensures { λ r. ⌜ text (now (room .exit)) r ≡ write (text (now (room .entry)) at) (ofLine line (now (words .entry))) ⌝ }
 {
-    if wrong < COLUMNS {
-        return column_words(room, at, wrong);
+    let mut end = bytes(room, at, b"line ");
+    end = decimal(room, end, line as u64);
+    bytes(room, end, words)
+}
+
+// The node of a line; there is none before line 2.
+fn node_on(line: usize) -> u64
+    ensures { λ r. ⌜ r ≡ line - 2 ⌝ }
+{
+    if line < 2 {
+        return 0;
     }
-    if wrong == COLUMNS {
-        return bytes(room, at, b"it has more than seven fields");
+    (line - 2) as u64
+}
+
+// What is wrong with a line.
+pub fn fault_words(room: &mut [u8], at: usize, line: usize, f: Fault) -> usize
+    ensures { λ r. ⌜ text (now (room .exit)) r ≡ write (text (now (room .entry)) at) (faultWords line f) ⌝ }
+{
+    match f {
+        Fault::EmptyFile => bytes(
+            room,
+            at,
+            b"the file is empty; line 1 must be the header node,kind,threshold,set1,set2,set3,set4",
+        ),
+        Fault::Mark => bytes(
+            room,
+            at,
+            b"the file begins with a byte-order mark, which is no part of the header",
+        ),
+        Fault::NoHeader => of_line(
+            room,
+            at,
+            line,
+            b" isn't the header node,kind,threshold,set1,set2,set3,set4",
+        ),
+        Fault::BareLf => of_line(room, at, line, b" ends in LF where CR LF is wanted"),
+        Fault::Semicolons => of_line(
+            room,
+            at,
+            line,
+            b": its fields are separated by semicolons where commas are wanted",
+        ),
+        Fault::Column(column, flaw) => {
+            let mut end = of_line(room, at, line, b": ");
+            end = column_name(room, end, column);
+            flaw_words(room, end, flaw)
+        }
+        Fault::MoreFields => of_line(room, at, line, b": it has more than seven fields"),
+        Fault::NotNext => {
+            let mut end = of_line(room, at, line, b": its node isn't ");
+            end = decimal(room, end, node_on(line));
+            bytes(room, end, b", the next one")
+        }
     }
-    let said = bytes(room, at, b"its node isn't ");
-    let end = decimal(room, said, node);
-    bytes(room, end, b", the next one")
 }
 
 // What a graph's number means. A graph is refused with 1 to 8, so the last arm is 8.

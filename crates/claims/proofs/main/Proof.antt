@@ -9,8 +9,8 @@ use Rattle.claims.proofs.main.Tie as tie
 text-room-requires : tie.Need-text-room-requires
 text-room-requires c κs = search needs
 
-words-room-requires : tie.Need-words-room-requires
-words-room-requires c κs = search needs
+room-requires : tie.Need-room-requires
+room-requires c κs = search needs
 
 slice-aggregate-read-full : tie.Need-slice-aggregate-read-full
 slice-aggregate-read-full c = search needs
@@ -68,7 +68,7 @@ main-spec =
     tie.close
     (tie.spec
     text-room-requires
-    words-room-requires
+    room-requires
     slice-aggregate-read-full
     read-full-requires
     array-share-prefix-file

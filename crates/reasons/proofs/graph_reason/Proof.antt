@@ -3,7 +3,6 @@ use borrow.Author.Needs.{needs}
 use Rattle.text.specs.Words.{word}
 use Rattle.text.proofs.Writing.{write-both}
 use Rattle.reasons.specs.Reasons.{graphReason}
-use borrow.Author.Needs.{needs}
 use Rattle.reasons.proofs.graph_reason.Statement.{statement}
 use Rattle.reasons.proofs.graph_reason.Tie as tie
 

@@ -6,7 +6,6 @@ use Rattle.text.specs.Words.{word}
 use Rattle.lines.proofs.Names.{in-key}
 use Rattle.reasons.specs.Reasons.{numberWords}
 use Rattle.reasons.proofs.Naming.{last-number}
-use borrow.Author.Needs.{needs}
 use Rattle.reasons.proofs.words.number_words.Statement.{statement}
 use Rattle.reasons.proofs.words.number_words.Tie as tie
 

@@ -2,15 +2,13 @@
 use mathlib.Core.Path.{refl, ap, _∙_}
 use borrow.Author.Needs.{needs}
 use borrow.Author.Tests.{le-leb}
+use Rattle.lemmas.proofs.Cases.{at-true}
+use Rattle.lemmas.proofs.Tests.{and-intro}
 use Rattle.text.specs.Words.{word}
 use Rattle.text.specs.Text.{write}
 use Rattle.text.proofs.Writing.{write-both}
-use Rattle.lemmas.proofs.Cases.{at-true}
-use Rattle.lemmas.proofs.Tests.{and-intro}
 use Rattle.reasons.specs.Reasons.{placeWords}
 use Rattle.reasons.proofs.Said.{low-placed, high-placed}
-use borrow.Author.Needs.{needs}
-use borrow.Author.Needs.{needs}
 use Rattle.reasons.proofs.words.place_words.Statement.{statement}
 use Rattle.reasons.proofs.words.place_words.Tie as tie
 
