@@ -1,0 +1,2 @@
+-- A file of waits as it is written back.
+pub mod Rewritten
