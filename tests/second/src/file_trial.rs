@@ -1,12 +1,13 @@
-//! `files`: drawn files of waits, held against a program and against the laws of reading and writing, until something
-//! differs.
+//! `files` and `rewrites`: drawn files of waits, held against a program and against the laws of reading and writing,
+//! until something differs.
 
 use crate::cases::{lock, Cases};
-use crate::claims;
+use crate::claims::{self, Outcome};
 use crate::drawn_files;
 use crate::file_laws;
 use crate::file_tally::FileTally;
-use crate::pipe::{readable, Program};
+use crate::pipe::{readable, Output, Program};
+use crate::rewrite;
 use std::io;
 use std::process::ExitCode;
 use std::sync::Mutex;
@@ -16,7 +17,28 @@ const PROGRESS_EVERY: u64 = 5_000;
 /// A trial of so many files must have come upon everything that it can.
 const MANY: u64 = 20_000;
 
+/// What a program must make of a file.
+pub struct Task {
+    trial: &'static str,
+    text: fn(&Outcome) -> String,
+    /// What is wrong with the text of a program that wrote what it must.
+    fault_beside: fn(&Program, &Outcome, &[u8]) -> io::Result<Option<String>>,
+}
+
+pub const CLAIMS: Task = Task {
+    trial: "files",
+    text: Outcome::to_string,
+    fault_beside: |_, _, _| Ok(None),
+};
+
+pub const REWRITE: Task = Task {
+    trial: "rewrites",
+    text: rewrite::text,
+    fault_beside: rewrite::fault_in_back,
+};
+
 pub struct FileTrial<'a> {
+    pub task: Task,
     pub seed: u64,
     pub count: u64,
     pub program: Program<'a>,
@@ -24,10 +46,11 @@ pub struct FileTrial<'a> {
 
 impl FileTrial<'_> {
     pub fn check(&self) -> io::Result<ExitCode> {
-        println!("files: seed {}, {} files", self.seed, self.count);
+        let trial = self.task.trial;
+        println!("{trial}: seed {}, {} files", self.seed, self.count);
         let tally = Mutex::new(FileTally::new());
         let files = Cases {
-            trial: "files",
+            trial,
             what: "files",
             count: self.count,
             progress_every: PROGRESS_EVERY,
@@ -37,9 +60,9 @@ impl FileTrial<'_> {
         }
         let tally = lock(&tally);
         print!("{tally}");
-        println!("files: all {} files agree", self.count);
+        println!("{trial}: all {} files agree", self.count);
         match self.count {
-            MANY.. => Ok(tally.completeness("files")),
+            MANY.. => Ok(tally.completeness(trial)),
             _ => Ok(ExitCode::SUCCESS),
         }
     }
@@ -49,21 +72,33 @@ impl FileTrial<'_> {
         let bytes = &drawn.file.bytes;
         let outcome = claims::judge(bytes);
         lock(tally).count(&drawn, &outcome);
-        let expected = outcome.to_string();
+        let expected = (self.task.text)(&outcome);
         let output = self.program.run(bytes)?;
         let fault = match file_laws::broken(&drawn.file, &outcome) {
             Some(law) => Some(format!("our own side breaks a law: {law}")),
-            None => output
-                .fault(expected.as_bytes())
-                .or_else(|| outcome.fault_in_errors(&output.errors)),
+            None => self.fault(&outcome, &expected, &output)?,
         };
         Ok(fault.map(|fault| {
             let (file, got) = (readable(bytes), readable(&output.bytes));
             let kind = format!("{}: {}", drawn.group, drawn.name);
             let place = format!("file {index} of seed {} ({kind})", self.seed);
+            let trial = self.task.trial;
             format!(
-                "file:\n{file}expected:\n{expected}got:\n{got}files: differs at {place}, {fault}"
+                "file:\n{file}expected:\n{expected}got:\n{got}{trial}: differs at {place}, {fault}"
             )
         }))
+    }
+
+    fn fault(
+        &self,
+        outcome: &Outcome,
+        expected: &str,
+        output: &Output,
+    ) -> io::Result<Option<String>> {
+        let fault = output.fault(expected.as_bytes());
+        match fault.or_else(|| outcome.fault_in_errors(&output.errors)) {
+            Some(fault) => Ok(Some(fault)),
+            None => (self.task.fault_beside)(&self.program, outcome, &output.bytes),
+        }
     }
 }

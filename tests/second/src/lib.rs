@@ -57,6 +57,7 @@ pub mod random;
 pub mod reduction;
 pub mod refused_graphs;
 pub mod replay;
+pub mod rewrite;
 pub mod script;
 pub mod shapes;
 pub mod sheet;

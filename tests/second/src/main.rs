@@ -1,20 +1,23 @@
 //! The second program: says what the paper's rules make of an input, and holds other programs against it.
 
 use second::call_trial::CallTrial;
-use second::file_trial::FileTrial;
+use second::claims::Outcome;
+use second::file_trial::{FileTrial, CLAIMS, REWRITE};
 use second::pipe::Program;
 use second::random::Trial;
-use second::{claims, mornings, replay, vectors};
+use second::{claims, mornings, replay, rewrite, vectors};
 use std::io::{self, Read, Write};
 use std::process::ExitCode;
 
 const USAGE: &str = "second replay
 second claims
+second rewrite
 second vectors DIR PROGRAM [ARGS...]
 second files-vectors DIR PROGRAM [ARGS...]
 second random SEED COUNT PROGRAM [ARGS...]
 second calls SEED COUNT PROGRAM [ARGS...]
 second files SEED COUNT PROGRAM [ARGS...]
+second rewrites SEED COUNT PROGRAM [ARGS...]
 second mornings";
 
 fn main() -> ExitCode {
@@ -29,11 +32,8 @@ fn main() -> ExitCode {
 fn obey(words: &[&str]) -> io::Result<ExitCode> {
     match words {
         ["replay"] => say(&replay::replay(&input()?)),
-        ["claims"] => {
-            let outcome = claims::judge(&input()?);
-            io::stderr().write_all(outcome.errors().as_bytes())?;
-            say(&outcome.to_string())
-        }
+        ["claims"] => answer(Outcome::to_string),
+        ["rewrite"] => answer(rewrite::text),
         ["mornings"] => say(&mornings::text()),
         ["vectors", folder, name, arguments @ ..] => {
             vectors::SCRIPTS.check(folder, &Program { name, arguments })
@@ -64,6 +64,14 @@ fn try_out(trial: &str, seed: u64, count: u64, program: Program) -> io::Result<E
         }
         .check(),
         "files" => FileTrial {
+            task: CLAIMS,
+            seed,
+            count,
+            program,
+        }
+        .check(),
+        "rewrites" => FileTrial {
+            task: REWRITE,
             seed,
             count,
             program,
@@ -71,6 +79,13 @@ fn try_out(trial: &str, seed: u64, count: u64, program: Program) -> io::Result<E
         .check(),
         _ => usage(),
     }
+}
+
+/// What is said of the file on standard input.
+fn answer(text: fn(&Outcome) -> String) -> io::Result<ExitCode> {
+    let outcome = claims::judge(&input()?);
+    io::stderr().write_all(outcome.errors().as_bytes())?;
+    say(&text(&outcome))
 }
 
 fn input() -> io::Result<Vec<u8>> {
