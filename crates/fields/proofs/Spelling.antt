@@ -1,5 +1,5 @@
 -- A field without its quotes, and texts that are the same. Assumes nothing.
-use mathlib.Core.Path.{_≡_, refl, sym, ap, ap₂, _∙_}
+use mathlib.Core.Path.{_≡_, refl, sym, ap, ap₂, subst, _∙_}
 use mathlib.Core.Bool.{Bool, true, false, cond, _&&_}
 use mathlib.Core.List.{List, [], _∷_}
 use Prim.Native.Nat.{ℕ, suc, _+_, _-_, _≤_, _<_}
@@ -72,6 +72,9 @@ bare-part w = by (quoted w) refl
       order = omega arith;
       inside = omega arith;
     }
+
+pub bare-is : (w : List ℕ) {p : Part} → p ≡ bareAt w → PartIs w (bare w) p
+bare-is w e = subst (PartIs w (bare w)) (sym e) (bare-part w)
 
 -- ---- the same text
 pub same-length : (a b : List ℕ) → (length a ≡ length b → ⊥) → false ≡ same a b

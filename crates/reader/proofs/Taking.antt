@@ -22,7 +22,7 @@ use Rattle.fields.specs.declared.words.Part.{Part}
 use Rattle.fields.specs.Ends.{upTo, piecesFrom}
 use Rattle.fields.specs.Answers.{bareAt}
 use Rattle.fields.proofs.Finding.{up-le, pieces-start, pieces-none, pieces-next}
-use Rattle.fields.proofs.Spelling.{PartIs, bare-part}
+use Rattle.fields.proofs.Spelling.{PartIs, bare-part, bare-is}
 use Rattle.reader.specs.declared.places.FieldAt.{FieldAt}
 use Rattle.reader.specs.declared.places.NumberAt.{NumberAt}
 use Rattle.reader.specs.declared.places.SetAt.{SetAt}
@@ -99,7 +99,7 @@ module _ (line : List ℕ) (from : ℕ) where
   pub part-fits : (end : ℕ) {p : Part} → p ≡ bareAt (take (end - from) (drop from line)) → (p .start ≤ p .end) × (p .end ≤ end - from)
   part-fits end e =
       let w = take (end - from) (drop from line) in
-      let s = subst (PartIs w (bare w)) (sym e) (bare-part w) in
+      let s = bare-is w e in
       (s .order, omega (arith, s .inside, length-take (end - from) (drop from line)))
 
   module _ (h : from ≤ length line) where
