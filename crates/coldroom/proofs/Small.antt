@@ -35,6 +35,7 @@ use Rattle.deadlock.specs.declared.ring.Report.the-variants.{Refused as Report�
 use Rattle.deadlock.specs.Claims.{FoundSays, ClaimSays}
 use Rattle.deadlock.specs.Evidence.{WrittenSays, judgedOf}
 use Rattle.deadlock.specs.Ring.{ReportSays}
+use Rattle.deadlock.specs.Waiters.{InSays}
 use Rattle.deadlock.specs.Sweeps.{knot}
 use Rattle.deadlock.proofs.Refused.{room-accepted}
 use Rattle.deadlock.proofs.Judging.{judged-refusal, judged-said, member-node}
@@ -134,6 +135,9 @@ module _ (n : ℕ) (rows : List ℕ) (r : Refusal) where
   found-small x p e = check-small n rows r (subst (FoundSays n rows) e p)
 
   module _ (i : ℕ) where
+    pub waiting-small : (x : Found) → InSays n rows i x → x ≡ Found·Refused r → Small r
+    waiting-small x p e = node-small n rows i r (subst (InSays n rows i) e p)
+
     pub claim-small : (x : Claim) → ClaimSays n rows i x → x ≡ Claim·Refused r → Small r
     claim-small x p e = node-small n rows i r (subst (ClaimSays n rows i) e p)
 

@@ -3,10 +3,12 @@ use mathlib.Core.Path.{_≡_, sym, ap, _∙_}
 use mathlib.Core.List.{List}
 use Prim.Native.Nat.{ℕ}
 use Rattle.lemmas.proofs.Cases.{only-one}
+use Rattle.deadlock.specs.declared.claims.Found.{Found}
 use Rattle.deadlock.specs.Claims.{FoundSays, ClaimSays}
 use Rattle.deadlock.specs.Evidence.{WrittenSays}
 use Rattle.deadlock.specs.Ring.{ReportSays}
-use Rattle.deadlock.proofs.Unique.{one-found, one-claim, one-report, one-written}
+use Rattle.deadlock.specs.Waiters.{InSays}
+use Rattle.deadlock.proofs.Unique.{one-found, one-waiting, one-claim, one-report, one-written}
 use Rattle.step.specs.Step.{Outcome}
 use Rattle.bench.specs.Bench.{Bench, After}
 use Rattle.bench.specs.Runs.{Run}
@@ -17,6 +19,13 @@ use Rattle.coldroom.specs.Left.{Says, setAfter, Leaves, StepLeaves, RunL
 one-says : {A : Type 0} (Allowed : A → Type 0) (numberOf : A → ℕ) → ((x y : A) → Allowed x → Allowed y → x ≡ y)
     → (r s : ℕ) → Says Allowed numberOf r → Says Allowed numberOf s → r ≡ s
 one-says Allowed numberOf one r s (x, p, e) (y, q, f) = e ∙ ap numberOf (one x y p q) ∙ sym f
+
+-- and one set is left, where one is lent
+one-lent : (Allowed : Found → Type 0) → ((x y : Found) → Allowed x → Allowed y → x ≡ y) → (set left right r s : ℕ)
+    → Says (λ x. Allowed x × (left ≡ setAfter set x)) found r → Says (λ x. Allowed x × (right ≡ setAfter set x)) found s → (r ≡ s) × (left ≡ right)
+one-lent Allowed one set left right r s (x, (p, a), e) (y, (q, b), f) =
+    let same : x ≡ y = one x y p q in
+    (e ∙ ap found same ∙ sym f, a ∙ ap (setAfter set) same ∙ sym b)
 
 -- ---- Laws: the calls on a graph. A promise that is an equation has `only-one`.
 module _ (n : ℕ) (rows : List ℕ) where
@@ -29,9 +38,12 @@ module _ (n : ℕ) (rows : List ℕ) where
   pub one-all-deadlocked : (set left right r s : ℕ)
       → Says (λ x. FoundSays n rows x × (left ≡ setAfter set x)) found r → Says (λ x. FoundSays n rows x × (right ≡ setAfter set x)) found s
       → (r ≡ s) × (left ≡ right)
-  one-all-deadlocked set left right r s (x, (p, a), e) (y, (q, b), f) =
-      let same : x ≡ y = one-found n rows x y p q in
-      (e ∙ ap found same ∙ sym f, a ∙ ap (setAfter set) same ∙ sym b)
+  one-all-deadlocked = one-lent (FoundSays n rows) (one-found n rows)
+
+  pub one-in : (i set left right r s : ℕ)
+      → Says (λ x. InSays n rows i x × (left ≡ setAfter set x)) found r → Says (λ x. InSays n rows i x × (right ≡ setAfter set x)) found s
+      → (r ≡ s) × (left ≡ right)
+  one-in i = one-lent (InSays n rows i) (one-waiting n rows i)
 
   pub one-write-evidence : (i : ℕ) (room left right : List ℕ) (r s : ℕ) → Says (WrittenSays n rows i room left) written r → Says (WrittenSays n rows i room right) written s
       → (r ≡ s) × (left ≡ right)

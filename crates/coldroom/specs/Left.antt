@@ -20,7 +20,7 @@ use Rattle.coldroom.specs.Results.{answer, ran}
 abbrev pub Says : {A : Type 0} → (A → Type 0) → (A → ℕ) → ℕ → Type 0
 Says {A} Allowed numberOf r = (x : A) × Allowed x × (r ≡ numberOf x)
 
--- the lent set: written unless the graph is refused
+-- the lent set: written unless the call is refused
 abbrev pub setAfter : ℕ → Found → ℕ
 setAfter s (Found·Refused r) = s
 setAfter s (Nodes t) = num t

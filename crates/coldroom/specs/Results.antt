@@ -36,7 +36,7 @@ claim (Claim·Refused r) = refusal r
 claim Claim·NotDeadlocked = plus 0
 claim Deadlocked = plus 1
 
--- all claims: the set is lent
+-- all claims, and who waits on a node: the set is lent
 abbrev pub found : Found → ℕ
 found (Found·Refused r) = refusal r
 found (Nodes s) = plus 0

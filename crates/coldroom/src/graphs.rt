@@ -4,6 +4,7 @@ ghost use Rattle.waits.specs.Numbers.{checkOf};
 ghost use Rattle.deadlock.specs.Claims.{FoundSays, ClaimSays};
 ghost use Rattle.deadlock.specs.Evidence.{WrittenSays, judgedOf};
 ghost use Rattle.deadlock.specs.Ring.{ReportSays};
+ghost use Rattle.deadlock.specs.Waiters.{InSays};
 ghost use Rattle.coldroom.specs.Results.{checked as checked-number, claim as claim-number, found as found-number, written as written-number};
 ghost use Rattle.coldroom.specs.Results.{judged as judged-number, report as report-number};
 ghost use Rattle.coldroom.specs.Left.{Says, setAfter};
@@ -18,6 +19,7 @@ use deadlock::all_deadlocked;
 use deadlock::check_evidence;
 use deadlock::deadlocked;
 use deadlock::ring_report;
+use deadlock::waiting_on;
 use deadlock::write_evidence;
 use nodes::Node;
 use waits::Checked;
@@ -110,5 +112,20 @@ pub extern "C" fn coldroom_ring(nodes: usize, rows: &[u64], node: usize) -> u64
         Report::NotDeadlocked => PLUS,
         Report::InRing => PLUS + 1,
         Report::BehindRing => PLUS + 2,
+    }
+}
+
+// IN of a node, as a set: what its controller is to be told.
+#[no_mangle]
+pub extern "C" fn coldroom_in(nodes: usize, rows: &[u64], node: usize, set: &mut u64) -> u64
+    ensures { λ r. ⌜ Says (λ x. InSays nodes (now (rows .entry)) node x × (now (set .exit) ≡ setAfter (now (set .entry)) x)) found-number r ⌝ }
+{
+    let found = waiting_on(nodes, rows, Node(node));
+    match found {
+        Found::Refused(r) => refusal(r),
+        Found::Nodes(s) => {
+            *set = s.0;
+            PLUS
+        }
     }
 }

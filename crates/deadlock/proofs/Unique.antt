@@ -5,6 +5,7 @@ use mathlib.Core.List.{List, _++_}
 use Prim.Native.Nat.{ℕ}
 use lib.ListN.{length, drop}
 use Rattle.lemmas.proofs.Ascending.{ascending-unique}
+use Rattle.lemmas.proofs.Cases.{only-one}
 use Rattle.nodes.specs.declared.Set.{Set}
 use Rattle.nodes.specs.Sets.{In}
 use Rattle.nodes.specs.Words.{num}
@@ -26,6 +27,7 @@ use Rattle.deadlock.specs.declared.ring.Report.the-variants.{InRing, Beh
 use Rattle.deadlock.specs.Claims.{FoundSays, ClaimSays}
 use Rattle.deadlock.specs.Evidence.{Evidence, WrittenSays}
 use Rattle.deadlock.specs.Ring.{ReportSays}
+use Rattle.deadlock.specs.Waiters.{InSays}
 
 -- ---- a check gives one answer
 one-refusal : {a : Checked} {r s : Refusal} → a ≡ Refused r → a ≡ Refused s → r ≡ s
@@ -44,6 +46,13 @@ one-found n rows (Nodes s) (Nodes t) p q = ap Nodes (one-set s t (p .1) (q .1))
 one-found n rows (Nodes s) (Found·Refused r) p q = absurd (one-way q (p .0))
 one-found n rows (Found·Refused r) (Nodes t) p q = absurd (one-way p (q .0))
 one-found n rows (Found·Refused r) (Found·Refused s) p q = ap Found·Refused (one-refusal p q)
+
+-- Law: of who waits on a node.
+pub one-waiting : (n : ℕ) (rows : List ℕ) (i : ℕ) (x y : Found) → InSays n rows i x → InSays n rows i y → x ≡ y
+one-waiting n rows i (Nodes s) (Nodes t) p q = ap Nodes (same-set s t (only-one (p .1) (q .1)))
+one-waiting n rows i (Nodes s) (Found·Refused r) p q = absurd (one-way q (p .0))
+one-waiting n rows i (Found·Refused r) (Nodes t) p q = absurd (one-way p (q .0))
+one-waiting n rows i (Found·Refused r) (Found·Refused s) p q = ap Found·Refused (one-refusal p q)
 
 -- Law: of one claim.
 pub one-claim : (n : ℕ) (rows : List ℕ) (i : ℕ) (x y : Claim) → ClaimSays n rows i x → ClaimSays n rows i y → x ≡ y

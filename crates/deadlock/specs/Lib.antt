@@ -3,4 +3,5 @@ pub mod Refusals
 pub mod Claims
 pub mod Evidence
 pub mod Ring
+pub mod Waiters
 pub mod Sweeps

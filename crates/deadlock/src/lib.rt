@@ -1,10 +1,11 @@
-// Who is deadlocked, the evidence for it, and the ring.
+// Who is deadlocked, the evidence for it, and the ring; and who waits on a node.
 mod claims;
 mod evidence;
 mod reach;
 mod reduce;
 mod refusals;
 mod ring;
+mod waiters;
 
 pub use claims::Claim;
 pub use claims::Found;
@@ -16,3 +17,4 @@ pub use evidence::check_evidence;
 pub use evidence::write_evidence;
 pub use ring::Report;
 pub use ring::ring_report;
+pub use waiters::waiting_on;

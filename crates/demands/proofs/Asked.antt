@@ -23,6 +23,7 @@ use Rattle.deadlock.specs.declared.evidence.Judged.the-variants.{Refused as Jud
 use Rattle.deadlock.specs.Refusals.{askedLines, listLines, roomLines, checkNodeOf, checkListOf, checkRoomOf}
 use Rattle.deadlock.specs.Claims.{FoundSays, ClaimSays}
 use Rattle.deadlock.specs.Ring.{ReportSays}
+use Rattle.deadlock.specs.Waiters.{InSays}
 use Rattle.deadlock.specs.Evidence.{WrittenSays, judgedOf}
 use Rattle.deadlock.proofs.Judging.{judged-refusal}
 
@@ -65,6 +66,13 @@ module _ (n : ℕ) (rows : List ℕ) (r : Refusal) (i : ℕ) where
 
   pub ring-gives : (x : Report) → ReportSays n rows i x → (x ≡ Report·Refused r) ↔ Gives (askedLines n rows i []) r
   ring-gives x p = Iff·trans (ring-check x p) node-gives
+
+  in-check : (x : Found) → InSays n rows i x → (x ≡ Found·Refused r) ↔ (checkNodeOf n rows i ≡ Refused r)
+  in-check (Nodes s) p = no-refusal Found·Refused (λ e. cc e) (p .0)
+  in-check (Found·Refused t) p = by-refusal Found·Refused (λ e. cc e) p
+
+  pub in-gives : (x : Found) → InSays n rows i x → (x ≡ Found·Refused r) ↔ Gives (askedLines n rows i []) r
+  in-gives x p = Iff·trans (in-check x p) node-gives
 
   -- ---- with a list
   pub list-gives : (l : List ℕ) → (judgedOf n rows i l ≡ Judged·Refused r) ↔ Gives (listLines n rows i l) r

@@ -29,7 +29,7 @@ use Rattle.bench.specs.Runs.{Run, run, refuseAll, runOn, answersOn, runOf}
 use Rattle.demands.specs.Turns.{accepted}
 use Rattle.demands.specs.Refusals.{stepLines, runLines}
 use Rattle.demands.specs.Demands.{Demand1}
-use Rattle.demands.proofs.Asked.{by-refusal, no-refusal, found-gives, claim-gives, ring-gives, list-gives, written-gives}
+use Rattle.demands.proofs.Asked.{by-refusal, no-refusal, found-gives, claim-gives, ring-gives, in-gives, list-gives, written-gives}
 use Rattle.demands.proofs.Said.{not-refused, one-refusal, open-accepted, receive-accepted, says-refused, says-left, step-says}
 
 -- ---- a controller's call: it is refused exactly if its check is, and then the record is handed back and nothing is sent
@@ -110,6 +110,7 @@ demand-1 n rows r = record {
   ring-refused = ring-gives n rows r;
   list-refused = list-gives n rows r;
   evidence-refused = written-gives n rows r;
+  in-refused = in-gives n rows r;
   opening-refused = λ me row ins s round. open-gives n me row ins s round r;
   delivery-refused = λ me row ins s m. deliver-gives n me row ins s m r;
   step-refused = λ b x. step-gives n rows b x r;

@@ -1,7 +1,7 @@
 -- The page that a reader must believe: the three demands, sentence by sentence, with what the paper adds to them. Every name means
 -- what its own file says, and ../proofs/Demands.antt shows that the statements follow. The calls promise what is spoken of here:
 -- `check` checkOf, `check_evidence` judgedOf, `all_deadlocked` FoundSays, `deadlocked` ClaimSays, `ring_report` ReportSays,
--- `write_evidence` WrittenSays, `open` openOf, `deliver` deliverOf, `step` stepOn, `run` runOf. Assumes nothing.
+-- `write_evidence` WrittenSays, `waiting_on` InSays, `open` openOf, `deliver` deliverOf, `step` stepOn, `run` runOf. Assumes nothing.
 use mathlib.Core.Path.{_≡_}
 use mathlib.Core.Bool.{true, false}
 use mathlib.Core.Logic.{_⊎_, _↔_}
@@ -33,6 +33,7 @@ use Rattle.deadlock.specs.declared.evidence.Judged.the-variants.{Passes, ClaimM
 use Rattle.deadlock.specs.Refusals.{askedLines, listLines, roomLines, checkNodeOf, checkListOf}
 use Rattle.deadlock.specs.Claims.{FoundSays, ClaimSays}
 use Rattle.deadlock.specs.Ring.{LeadsTo, ReportSays}
+use Rattle.deadlock.specs.Waiters.{InSays}
 use Rattle.deadlock.specs.Evidence.{Evidence, WrittenSays, judgedOf}
 use Rattle.step.specs.declared.answers.Verdict.{Verdict}
 use Rattle.step.specs.declared.answers.Verdict.the-variants.{Deadlocked as Verdict·Deadlocked}
@@ -63,6 +64,7 @@ pub record Demand1 (n : ℕ) (rows : List ℕ) (r : Refusal) : Type 0 where
   pub ring-refused : (i : ℕ) (x : Report) → ReportSays n rows i x → (x ≡ Report·Refused r) ↔ Gives (askedLines n rows i []) r
   pub list-refused : (i : ℕ) (l : List ℕ) → (judgedOf n rows i l ≡ Judged·Refused r) ↔ Gives (listLines n rows i l) r
   pub evidence-refused : (i : ℕ) (found left : List ℕ) (x : Written) → WrittenSays n rows i found left x → (x ≡ Written·Refused r) ↔ Gives (roomLines n rows i (length found)) r
+  pub in-refused : (i : ℕ) (x : Found) → InSays n rows i x → (x ≡ Found·Refused r) ↔ Gives (askedLines n rows i []) r
   pub opening-refused : (me : ℕ) (row : List ℕ) (ins : ℕ) (s : State) (round : ℕ)
       → (openOf n me row ins s round .answer ≡ Answer·Refused r) ↔ Gives (openLines n me row ins s round) r
   pub delivery-refused : (me : ℕ) (row : List ℕ) (ins : ℕ) (s : State) (m : Message)
