@@ -14,6 +14,10 @@ use Rattle.records.specs.Records.{State, stateOf}
 abbrev pub recordSize : ℕ
 recordSize = 7
 
+-- how many the records of the largest graph have: 448
+abbrev pub mostRecords : ℕ
+mostRecords = places * recordSize
+
 -- how many numbers the records of a graph have; one of more nodes than a set has places for is refused, whatever its records are
 unfoldable pub recordNumbers : ℕ → ℕ
 recordNumbers n = cond (ltb places n) 0 (n * recordSize)

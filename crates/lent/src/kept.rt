@@ -1,9 +1,9 @@
 // Records in a lent list: seven numbers a node.
 ghost use mathlib.Core.Path.{_≡_};
 ghost use Prim.Native.Nat.{_+_, _*_, _≤_};
-ghost use lib.ListN.{length};
+ghost use lib.ListN.{length, replicate};
 ghost use Rattle.records.specs.Records.{stateOf};
-ghost use Rattle.lent.specs.Kept.{recordSize, recordNumbers, recordAt, putState};
+ghost use Rattle.lent.specs.Kept.{recordSize, mostRecords, recordNumbers, recordAt, putState};
 use nodes::Node;
 use nodes::PLACES;
 use nodes::Round;
@@ -17,9 +17,16 @@ pub const RECORD: usize = 7;
 // Seven numbers for each node of the largest graph.
 pub const RECORDS: usize = 448;
 
+// Blank records, as many as the largest graph has.
+pub fn records_room() -> [u64; RECORDS]
+    ensures { λ r. ⌜ r ≡ replicate mostRecords 0 ⌝ }
+{
+    [0; RECORDS]
+}
+
 // How many numbers the records of a graph have; one that is too large is refused, whatever its records are.
 pub fn record_numbers(nodes: usize) -> usize
-    ensures { λ r. ⌜ (r ≡ recordNumbers nodes) × (r ≤ 448) ⌝ }
+    ensures { λ r. ⌜ (r ≡ recordNumbers nodes) × (r ≤ mostRecords) ⌝ }
 {
     if PLACES < nodes {
         return 0;

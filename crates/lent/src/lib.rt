@@ -8,6 +8,7 @@ pub use kept::RECORDS;
 pub use kept::put_record;
 pub use kept::record_at;
 pub use kept::record_numbers;
+pub use kept::records_room;
 pub use sending::message_of;
 pub use sending::send;
 pub use sending::total;

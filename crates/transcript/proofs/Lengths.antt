@@ -37,7 +37,7 @@ use Rattle.script.specs.Script.Meant.{NoScript}
 use Rattle.script.specs.Numbers.{numbersOf}
 use Rattle.script.proofs.Triples.{steps-length}
 use Rattle.script.proofs.Shapes.{from, count, rest, script, Passed, is-script, none-or-passed}
-use Rattle.transcript.specs.Transcript.{zeros, lineOf, messageLines, toldOf, told, played, answeredBy, transcriptOf}
+use Rattle.transcript.specs.Transcript.{zeros, lineOf, messageLines, toldOf, told, played, answeredBy, transcriptOf, longestText}
 use Rattle.transcript.proofs.Fresh.{zeros-length, filled}
 
 -- ---- the answers
@@ -90,9 +90,6 @@ messages-short n highest few (x ∷ l) k h e =
     )
 
 -- ---- the whole text
-abbrev pub longestText : ℕ
-longestText = 393216
-
 module _ (s : Script) (few : length (s .steps) ≤ most) where
   abbrev n : ℕ
   n = s .nodes

@@ -1,7 +1,7 @@
 -- A script in, a text out: its steps are taken on a fresh bench, and the text says what came of them. Assumes nothing.
 use mathlib.Core.Path.{_≡_}
 use mathlib.Core.List.{List, [], _∷_, _++_}
-use Prim.Native.Nat.{ℕ, suc, _≤_}
+use Prim.Native.Nat.{ℕ, suc, _*_, _≤_}
 use lib.ListN.{length, take, drop, replicate}
 use Rattle.records.specs.declared.messages.Message.{Message}
 use Rattle.waits.specs.declared.numbers.Checked.{Checked}
@@ -12,7 +12,7 @@ use Rattle.bench.specs.Bench.{fresh}
 use Rattle.bench.specs.Runs.{Run, runOf}
 use Rattle.lines.specs.Lines.{answerLines, messageLine, refusedLine, noScriptLine}
 use Rattle.script.specs.declared.script.Shape.{Shape}
-use Rattle.script.specs.Script.{Script, Meant, meantBy}
+use Rattle.script.specs.Script.{most, Script, Meant, meantBy}
 use Rattle.script.specs.Script.Meant.{NoScript, IsScript}
 
 abbrev pub zeros : ℕ → List ℕ
@@ -45,6 +45,10 @@ answeredBy (IsScript s) = played s
 -- the text that answers the bytes of a script
 unfoldable pub transcriptOf : List ℕ → List ℕ
 transcriptOf bytes = answeredBy (meantBy bytes)
+
+-- no text is longer: a line of at most 28 bytes for each step, and one of at most 39 for each message, of which there are at most 4,096
+abbrev pub longestText : ℕ
+longestText = 48 * most
 
 -- ---- what the functions promise
 

@@ -2,13 +2,15 @@
 ghost use mathlib.Core.Path.{_≡_};
 ghost use Prim.Native.Nat.{_+_, _≤_};
 ghost use lib.ListN.{length, take};
+ghost use Rattle.lent.specs.Kept.{mostRecords};
 ghost use Rattle.text.specs.Text.{text, write};
-ghost use Rattle.transcript.specs.Transcript.{zeros, lineOf, messageLines, toldOf, BeginSays, scriptAt, played, transcriptOf};
+ghost use Rattle.script.specs.Script.{most, longest};
+ghost use Rattle.transcript.specs.Transcript.{zeros, lineOf, messageLines, toldOf, BeginSays, scriptAt, played, transcriptOf, longestText};
 use bench::Ran;
 use bench::run;
-use lent::RECORDS;
 use lent::message_of;
 use lent::record_numbers;
+use lent::records_room;
 use nodes::Round;
 use records::Message;
 use script::NUMBERS;
@@ -18,8 +20,25 @@ use script::Shape;
 use script::parse;
 use waits::Checked;
 
+// One byte more than a script may have, so that a longer one is seen to be too long.
+pub const SCRIPT: usize = 1_048_577;
+
 // No text is longer, whatever the script.
 pub const TEXT: usize = 393_216;
+
+// Room for a script.
+pub fn script_room() -> [u8; SCRIPT]
+    ensures { λ r. ⌜ r ≡ zeros (longest + 1) ⌝ }
+{
+    [0; SCRIPT]
+}
+
+// Room for any text.
+pub fn text_room() -> [u8; TEXT]
+    ensures { λ r. ⌜ r ≡ zeros longestText ⌝ }
+{
+    [0; TEXT]
+}
 
 // The line of message k.
 fn message(room: &mut [u8], at: usize, k: usize, m: Message) -> usize
@@ -78,7 +97,7 @@ fn begin(
     steps: &[u64],
     answers: &mut [u64],
 ) -> Ran
-    requires { ⌜ (now records ≡ zeros 448) × (now messages ≡ zeros 8192) × (room ≤ 8192) × (length (now steps) ≤ length (now answers)) ⌝ }
+    requires { ⌜ (now records ≡ zeros mostRecords) × (now messages ≡ zeros most) × (room ≤ most) × (length (now steps) ≤ length (now answers)) ⌝ }
     ensures { λ r. ⌜ BeginSays nodes (now (rows .entry)) room (now (steps .entry)) r (now (messages .exit)) (now (answers .exit)) ⌝ }
 {
     let size = record_numbers(nodes);
@@ -96,10 +115,10 @@ fn begin(
 
 // Takes the steps of a script whose numbers and steps stand in lists, and says what came of them.
 fn play(room: &mut [u8], numbers: &[u64], steps: &[u64], shape: Shape) -> usize
-    requires { ⌜ (shape .rows + 2 ≤ length (now numbers)) × (shape .room ≤ 8192) × (shape .steps ≤ length (now steps)) × (shape .steps ≤ 8192) ⌝ }
+    requires { ⌜ (shape .rows + 2 ≤ length (now numbers)) × (shape .room ≤ most) × (shape .steps ≤ length (now steps)) × (shape .steps ≤ most) ⌝ }
     ensures { λ r. ⌜ text (now (room .exit)) r ≡ write (text (now (room .entry)) 0) (played (scriptAt (now (numbers .entry)) (now (steps .entry)) shape)) ⌝ }
 {
-    let mut records = [0u64; RECORDS];
+    let mut records = records_room();
     let mut messages = [0u64; STEPS];
     let mut answers = [0u64; STEPS];
     let nodes = shape.nodes as usize;

@@ -27,6 +27,7 @@ use Rattle.text.specs.Words.{word, decimal}
 use Rattle.text.proofs.Decimal.{decimal-two}
 use Rattle.format.specs.Cut.{space, comma, cr, lf, behind, joined, ended}
 use Rattle.format.specs.Written.{setText, rowText, rowTexts, headerText, fileOf}
+use Rattle.writer.specs.Answer.{longestFile}
 
 -- ---- a set: three bytes at most for each member
 abbrev Small : List ℕ → Type 0
@@ -95,9 +96,6 @@ threshold-most r e = go (eqb (r .kind) 1) e
     go false h = let z = eqb-true (r .threshold) 0 (not-false _ h) in omega arith
 
 -- ---- the file
-abbrev pub longest : ℕ
-longest = 7081
-
 module _ (n : ℕ) (rows : List ℕ) (ok : checkOf n rows ≡ Accepted) where
   abbrev w : Waits
   w = waitsOf n rows
@@ -137,7 +135,7 @@ module _ (n : ℕ) (rows : List ℕ) (ok : checkOf n rows ≡ Accepted) where
       ltb-false mostEdges (edges w) (check-accepted n rows .0 ok (line 8 0 (manyEdges n rows)) (there (Memᴰ·append-right (rowsLines n rows 0 n) (here refl))))
 
   -- Theorem: no file of an accepted graph is longer than this.
-  pub file-short : length (fileOf n rows) ≤ longest
+  pub file-short : length (fileOf n rows) ≤ longestFile
   unfolding fileOf ended rowsOf headerText joined behind word edges edgesTo
   file-short =
       omega (

@@ -2,12 +2,13 @@
 use mathlib.Core.Path.{_≡_}
 use mathlib.Core.Bool.{Bool}
 use mathlib.Core.List.{List, [], _∷_, _++_}
-use Prim.Native.Nat.{ℕ}
+use Prim.Native.Nat.{ℕ, _+_, _*_}
 use lib.Dec.{ltb}
 use lib.ListN.{length, drop}
+use Rattle.nodes.specs.Words.{places}
 use Rattle.waits.specs.declared.numbers.Checked.{Checked}
 use Rattle.waits.specs.declared.numbers.Checked.the-variants.{Accepted, Refused}
-use Rattle.waits.specs.Numbers.{Line, line, graphLines, firstSaid}
+use Rattle.waits.specs.Numbers.{mostEdges, Line, line, graphLines, firstSaid}
 use Rattle.format.specs.Written.{fileOf}
 use Rattle.writer.specs.declared.Written.{Written}
 use Rattle.writer.specs.declared.Written.the-variants.{Bytes, Refused as Written·Refused}
@@ -44,3 +45,8 @@ leftOf n rows found = leave (checkFileOf n rows (length found)) (fileOf n rows) 
 -- of an answer, with the lent bytes as found and as left
 abbrev pub WrittenSays : ℕ → List ℕ → List ℕ → List ℕ → Written → Type 0
 WrittenSays n rows found left r = (r ≡ writtenOf n rows (length found)) × (left ≡ leftOf n rows found)
+
+-- No file of an accepted graph is longer. The header has 41 bytes with its end. A row has at most 14 beside its sets: three numbers of
+-- two digits, six commas, and its end. An edge is a member of at most four sets, and takes two digits and a space in each.
+abbrev pub longestFile : ℕ
+longestFile = 41 + 14 * places + 12 * mostEdges

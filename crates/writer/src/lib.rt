@@ -1,6 +1,7 @@
 // A graph's file, written into lent bytes.
 ghost use mathlib.Core.Path.{_≡_};
 ghost use mathlib.Core.List.{_∷_, map};
+ghost use lib.ListN.{replicate};
 ghost use Rattle.nodes.specs.Sets.{members};
 ghost use Rattle.nodes.specs.Words.{num};
 ghost use Rattle.waits.specs.Rows.{Shaped};
@@ -8,7 +9,7 @@ ghost use Rattle.text.specs.Words.{decimal};
 ghost use Rattle.text.specs.Text.{text, write};
 ghost use Rattle.format.specs.Cut.{space, comma, behind};
 ghost use Rattle.format.specs.Written.{setText, rowText, fileOf};
-ghost use Rattle.writer.specs.Answer.{WrittenSays};
+ghost use Rattle.writer.specs.Answer.{WrittenSays, longestFile};
 use nodes::Node;
 use nodes::Set;
 use nodes::Smallest;
@@ -21,14 +22,19 @@ use waits::Row;
 use waits::check;
 use waits::row_at;
 
-// No file of an accepted graph is longer. The header has 41 bytes with its end. Each of at most 64 rows has at most 14 beside
-// its sets: three numbers of two digits, six commas, and its end. None of a row's four sets has more members than OUT, and all OUT
-// together have at most 512; a member takes at most two digits and a space.
+// No file of an accepted graph is longer: 41 bytes for the header, 14 for each of at most 64 rows, 12 for each of at most 512 edges.
 pub const LONGEST: usize = 7081;
 
 pub enum Written {
     Bytes(usize),
     Refused(Refusal),
+}
+
+// Room for any file of an accepted graph.
+pub fn file_room() -> [u8; LONGEST]
+    ensures { λ r. ⌜ r ≡ replicate longestFile 0 ⌝ }
+{
+    [0; LONGEST]
 }
 
 // A number behind a mark.
@@ -109,7 +115,7 @@ pub fn write_file(nodes: usize, rows: &[u64], room: &mut [u8]) -> Written
     if let Checked::Refused(r) = checked {
         return Written::Refused(r);
     }
-    let mut file = [0u8; LONGEST];
+    let mut file = file_room();
     let end = file_text(&mut file, nodes, rows);
     if room.len() < end {
         return Written::Refused(Refusal {
