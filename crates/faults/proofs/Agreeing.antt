@@ -1,17 +1,16 @@
--- What is said of a field and of a line agrees with how they are read: a field has no flaw exactly if it can be read, and a line has no
--- fault but its node exactly if each of its columns can, and no field more is there. Assumes nothing.
+-- What is said of a field agrees with how it is read: it has no flaw exactly if it can be read. Assumes nothing.
 use mathlib.Core.Path.{_≡_, refl, sym, ap, ap₂, _∙_}
-use mathlib.Core.Bool.{Bool, true, false, cond, not, _&&_, _||_}
+use mathlib.Core.Bool.{Bool, true, false, cond, not, _||_}
 use mathlib.Core.Logic.{_↔_}
 use mathlib.Core.List.{List, [], _∷_}
-use mathlib.Core.Option.{Option, none, some, Option·none-ne-some}
-use Prim.Native.Nat.{ℕ, suc, _+_, _^_, _≤_, _<_}
+use mathlib.Core.Option.{none, some}
+use Prim.Native.Nat.{ℕ, _+_, _^_, _≤_}
 use native.Mathlib.Omega.{arith}
 use lib.Dec.{leb, ltb, eqb}
 use lib.ListN.{length}
-use borrow.Author.Tests.{ne-eqb, le-leb, lt-leb, lt-ltb, le-ltb, leb-true, leb-false, ltb-true, ltb-false, not-false}
+use borrow.Author.Tests.{ne-eqb, lt-leb, lt-ltb, le-ltb, leb-false, ltb-true, ltb-false, not-false}
 use Rattle.lemmas.specs.Lists.{anyOf, ascending}
-use Rattle.lemmas.proofs.Cases.{at-true, at-false}
+use Rattle.lemmas.proofs.Cases.{at-false}
 use Rattle.lemmas.proofs.Tests.{and-intro, and-left, and-right, or-left-false, or-right-false}
 use Rattle.nodes.specs.Words.{places}
 use Rattle.nodes.specs.Sets.{setOf}
@@ -21,7 +20,6 @@ use Rattle.format.proofs.Choices.{some-unless}
 use Rattle.format.proofs.SetTexts.{in-front, these}
 use Rattle.faults.specs.declared.flaws.Flaw.{Flaw}
 use Rattle.faults.specs.declared.flaws.Flaw.the-variants.{Empty, NoDigit, PastBits}
-use Rattle.faults.specs.declared.flaws.Judged.{Judged}
 use Rattle.faults.specs.declared.flaws.Judged.the-variants.{Fine, Wrong}
 use Rattle.faults.specs.declared.flaws.Member.{Member}
 use Rattle.faults.specs.declared.flaws.Member.the-variants.{Is, IsNot}

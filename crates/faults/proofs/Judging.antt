@@ -2,16 +2,15 @@
 use mathlib.Core.Path.{_≡_, refl, sym, ap, ap₂, _∙_}
 use mathlib.Core.Bool.{Bool, true, false, cond, not, _||_}
 use mathlib.Core.List.{List}
-use mathlib.Core.Option.{Option, none, some, Option·none-ne-some}
+use mathlib.Core.Option.{none, some, Option·none-ne-some}
 use Prim.Native.Nat.{ℕ, _+_, _^_, _≤_, _<_}
 use native.Mathlib.Omega.{arith}
 use lib.Dec.{leb, ltb, eqb}
 use lib.ListN.{length}
-use borrow.Author.Tests.{eq-eqb, ne-eqb, le-leb, lt-leb, lt-ltb, le-ltb, leb-true, leb-false}
+use borrow.Author.Tests.{eq-eqb, ne-eqb, le-leb, lt-leb, lt-ltb, le-ltb, leb-true}
 use Rattle.lemmas.specs.Lists.{anyOf}
 use Rattle.lemmas.proofs.Cases.{at-true, at-false}
 use Rattle.nodes.specs.Words.{places}
-use Rattle.text.specs.Digits.{isDigit}
 use Rattle.text.proofs.Reading.{digit-low, digit-high, digit-is}
 use Rattle.format.specs.Fields.{noDigit, valueFrom, noNumber, numberOf}
 use Rattle.format.proofs.Choices.{some-unless}

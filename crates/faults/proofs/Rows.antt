@@ -1,28 +1,27 @@
 -- What is said of a line agrees with how it is read: it has no fault but its node exactly if it is the row of some node.
 -- Assumes nothing.
-use mathlib.Core.Path.{_≡_, refl, sym, ap, ap₂, _∙_}
+use mathlib.Core.Path.{_≡_, refl, sym, ap, _∙_}
 use mathlib.Core.Bool.{Bool, true, false, cond, not, _&&_}
 use mathlib.Core.Logic.{_↔_, ⊎-elim}
-use mathlib.Core.List.{List, [], _∷_, map}
+use mathlib.Core.List.{List, [], _∷_}
 use mathlib.Core.Option.{none, some, Option·some-injective}
-use Prim.Native.Nat.{ℕ, suc, _≤_, _<_}
+use Prim.Native.Nat.{ℕ, suc, _<_}
 use native.Mathlib.Omega.{arith}
-use lib.Dec.{ltb, eqb}
+use lib.Dec.{eqb}
 use borrow.Author.Tests.{lt-ltb, le-ltb, eq-eqb}
 use Rattle.lemmas.proofs.Cases.{at-true, at-false, of-true}
-use Rattle.lemmas.proofs.Tests.{and-intro, and-later, true-or-false}
+use Rattle.lemmas.proofs.Tests.{and-intro, true-or-false}
 use Rattle.waits.specs.declared.rows.Row.{Row}
 use Rattle.format.specs.Cut.{comma, lf, pieces}
 use Rattle.format.specs.Fields.{bare, numberOf, Taken, next, done}
 use Rattle.format.specs.Files.{fields, rowOf}
 use Rattle.format.specs.Grammar.{textData}
-use Rattle.format.proofs.Joining.{Free, joined-pieces, joined-free, pieces-alone}
+use Rattle.format.proofs.Joining.{Free, pieces-alone}
 use Rattle.format.proofs.Taking.{next-read, next-back}
 use Rattle.format.proofs.Forms.{Form, readAs, after, texts-back}
 use Rattle.format.proofs.Forms.Form.{Number, Members}
 use Rattle.format.proofs.Lines.{rowForms, row-parts}
 use Rattle.format.proofs.Clean.{noText, Clean, rows-clean}
-use Rattle.format.proofs.Quoting.{field-free, bare-field}
 use Rattle.format.proofs.Values.{row-values}
 use Rattle.format.proofs.Records.{valuesOf}
 use Rattle.faults.specs.declared.flaws.Flaw.{Flaw}
@@ -34,6 +33,7 @@ use Rattle.faults.specs.Flaws.{numberFlaw, setFlaw}
 use Rattle.faults.specs.Faults.{semicolon, has, lineFault, columns, fieldFlaw, columnThen, fieldsFault, rowFault}
 use Rattle.faults.proofs.Agreeing.{number-agrees, set-agrees}
 use Rattle.faults.proofs.Walking.{line-commas}
+use Rattle.faults.proofs.Headers.{clean-has}
 
 -- ---- a field of a form
 abbrev flawAs : Form → List ℕ → Judged
@@ -91,23 +91,7 @@ read-fields column (f ∷ forms) s ps e =
     (at-true MoreFields (lt-ltb column columns (s .0))
     (sym (ap (λ (j : Judged). columnThen column j (fieldsFault (suc column) (q .0))) fine ∙ later)))
 
--- ---- a row has no LF, and it has a comma
-clean-free : (vs : List (List ℕ)) → Clean vs → Free noText vs
-clean-free [] c = absurd c
-clean-free (v ∷ []) c = absurd c
-clean-free (v ∷ u ∷ vs) c = c
-
-lf-free : (ps : List (List ℕ)) → Free noText (map bare ps) → Free (eqb lf) ps
-unfolding textData
-lf-free [] c = tt
-lf-free (p ∷ ps) c = (field-free lf p (bare p) refl refl (c .0) (bare-field p (c .0)), lf-free ps (c .1))
-
-row-no-lf : (k : ℕ) (line : List ℕ) (r : Row) → rowOf k line ≡ some r → has lf line ≡ false
-row-no-lf k line r e =
-    let clean = rows-clean k (valuesOf line ∷ []) (r ∷ []) (row-values k line r e, tt) .0 in
-    ap (has lf) (sym (joined-pieces comma line))
-    ∙ joined-free (eqb lf) comma (pieces comma line) refl (lf-free (pieces comma line) (clean-free (valuesOf line) clean))
-
+-- ---- a row has a comma, and no LF
 one-field : (w : List ℕ) → fieldsFault 0 (w ∷ []) ≡ NotNext → ⊥
 unfolding fieldsFault
 one-field w e = column-not (then-fine 0 (fieldFlaw 0 w) _ e .1)
@@ -118,6 +102,16 @@ fields-comma line e =
     (λ (t : has comma line ≡ true). t)
     (λ (t : has comma line ≡ false). absurd (one-field line (ap (fieldsFault 0) (sym (pieces-alone comma line t)) ∙ e)))
     (true-or-false (has comma line))
+
+clean-free : (vs : List (List ℕ)) → Clean vs → Free noText vs
+clean-free [] c = absurd c
+clean-free (v ∷ []) c = absurd c
+clean-free (v ∷ u ∷ vs) c = c
+
+row-no-lf : (k : ℕ) (line : List ℕ) (r : Row) → rowOf k line ≡ some r → has lf line ≡ false
+unfolding textData
+row-no-lf k line r e =
+    clean-has lf refl refl refl line (clean-free (valuesOf line) (rows-clean k (valuesOf line ∷ []) (r ∷ []) (row-values k line r e, tt) .0))
 
 -- ---- a line
 row-faultless : (k : ℕ) (line : List ℕ) (r : Row) → rowOf k line ≡ some r → rowFault line ≡ NotNext

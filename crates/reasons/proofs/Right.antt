@@ -21,7 +21,7 @@ use Rattle.format.specs.Files.{fields, isHeader, rowOf, Meant, rowThen, rowsFro
 use Rattle.format.specs.Files.Meant.{Broken, Rows}
 use Rattle.format.specs.Files.Said.{Line, Refused, Graph}
 use Rattle.faults.specs.declared.Fault.the-variants.{NotNext}
-use Rattle.faults.specs.Faults.{rowFault, faultOf}
+use Rattle.faults.specs.Faults.{faultOf}
 use Rattle.faults.proofs.Rows.{faultless-row}
 
 -- ---- the line is no row

@@ -1,6 +1,6 @@
 // Why a file of waits is refused, as one line of plain words.
 ghost use mathlib.Core.Path.{_≡_};
-ghost use lib.ListN.{length};
+ghost use lib.ListN.{replicate};
 ghost use Rattle.text.specs.Text.{text, write};
 ghost use Rattle.reasons.specs.Reasons.{longestReason, lineReason, graphReason, reasonOf};
 use crate::words::fault_words;
@@ -20,7 +20,7 @@ pub const WORDS: usize = 96;
 
 // Room for any reason.
 pub fn room() -> [u8; WORDS]
-    ensures { λ r. ⌜ length r ≡ longestReason ⌝ }
+    ensures { λ r. ⌜ r ≡ replicate longestReason 0 ⌝ }
 {
     [0; WORDS]
 }

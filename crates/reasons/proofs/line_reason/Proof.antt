@@ -2,7 +2,6 @@
 use mathlib.Core.Path.{sym}
 use borrow.Author.Needs.{needs}
 use Rattle.text.proofs.Writing.{write-both}
-use Rattle.text.specs.Text.{write}
 use Rattle.text.specs.Words.{word}
 use Rattle.reasons.specs.Reasons.{lineReason}
 use Rattle.reasons.proofs.Said.{in-fault}
