@@ -1,5 +1,6 @@
 -- `member_in` meets its contract. Assumes nothing.
 use mathlib.Core.Path.{sym, _∙_}
+use native.Mathlib.Omega.{arith}
 use borrow.Author.Needs.{needs}
 use Rattle.lemmas.proofs.Cases.{flag}
 use Rattle.faults.proofs.Judging.{member-empty, member-strange, member-past, member-high, member-twice, member-descends, member-is}
@@ -28,19 +29,19 @@ returns-3 : tie.Need-returns-3
 returns-3 c = member-past _ _ (c .before .before .before .before .before .if1 .left) (flag (c .before .before .before .before .strange-in .ensures) (c .before .before .before .if2 .left)) (sym (c .enum-told .given .1) ∙ (c .before .before .number-in .ensures))
 
 returns-4 : tie.Need-returns-4
-returns-4 c = member-high _ _ (c .before .before .before .before .before .before .before .if1 .left) (flag (c .before .before .before .before .before .before .strange-in .ensures) (c .before .before .before .before .before .if2 .left)) (sym (c .before .before .n .given .1) ∙ (c .before .before .before .before .number-in .ensures)) (c .if3 .taken)
+returns-4 c = member-high _ _ (c .before .before .before .before .before .before .before .if1 .left) (flag (c .before .before .before .before .before .before .strange-in .ensures) (c .before .before .before .before .before .if2 .left)) (sym (c .before .before .n .given .1) ∙ (c .before .before .before .before .number-in .ensures)) (omega arith)
 
 add-if4 : tie.Need-add-if4
 add-if4 c = search needs
 
 returns-5 : tie.Need-returns-5
-returns-5 c = member-twice _ _ (c .before .before .before .before .before .before .before .before .if1 .left) (flag (c .before .before .before .before .before .before .before .strange-in .ensures) (c .before .before .before .before .before .before .if2 .left)) (sym (c .before .before .before .n .given .1) ∙ (c .before .before .before .before .before .number-in .ensures)) (c .before .if3 .left) (c .if4 .taken)
+returns-5 c = member-twice _ _ (c .before .before .before .before .before .before .before .before .if1 .left) (flag (c .before .before .before .before .before .before .before .strange-in .ensures) (c .before .before .before .before .before .before .if2 .left)) (sym (c .before .before .before .n .given .1) ∙ (c .before .before .before .before .before .number-in .ensures)) (omega arith) (c .if4 .taken)
 
 returns-6 : tie.Need-returns-6
-returns-6 c = member-descends _ _ (c .before .before .before .before .before .before .before .before .before .if1 .left) (flag (c .before .before .before .before .before .before .before .before .strange-in .ensures) (c .before .before .before .before .before .before .before .if2 .left)) (sym (c .before .before .before .before .n .given .1) ∙ (c .before .before .before .before .before .before .number-in .ensures)) (c .before .before .if3 .left) (c .before .if4 .left) (c .if5 .taken)
+returns-6 c = member-descends _ _ (c .before .before .before .before .before .before .before .before .before .if1 .left) (flag (c .before .before .before .before .before .before .before .before .strange-in .ensures) (c .before .before .before .before .before .before .before .if2 .left)) (sym (c .before .before .before .before .n .given .1) ∙ (c .before .before .before .before .before .before .number-in .ensures)) (omega arith) (c .before .if4 .left) (c .if5 .taken)
 
 returns-7 : tie.Need-returns-7
-returns-7 c = member-is _ _ (c .before .before .before .before .before .before .before .before .before .if1 .left) (flag (c .before .before .before .before .before .before .before .before .strange-in .ensures) (c .before .before .before .before .before .before .before .if2 .left)) (sym (c .before .before .before .before .n .given .1) ∙ (c .before .before .before .before .before .before .number-in .ensures)) (c .before .before .if3 .left) (c .before .if4 .left) (c .if5 .left)
+returns-7 c = member-is _ _ (c .before .before .before .before .before .before .before .before .before .if1 .left) (flag (c .before .before .before .before .before .before .before .before .strange-in .ensures) (c .before .before .before .before .before .before .before .if2 .left)) (sym (c .before .before .before .before .n .given .1) ∙ (c .before .before .before .before .before .before .number-in .ensures)) (omega arith) (c .before .if4 .left) (c .if5 .left)
 
 pub member-in-spec : {M : Type 1} → statement M
 member-in-spec =
