@@ -19,7 +19,7 @@ mod words;
 pub const WORDS: usize = 96;
 
 // Room for any reason.
-pub fn room() -> [u8; WORDS]
+pub fn words_room() -> [u8; WORDS]
     ensures { λ r. ⌜ r ≡ replicate longestReason 0 ⌝ }
 {
     [0; WORDS]

@@ -23,12 +23,9 @@ use Rattle.text.proofs.Writing.{write-fits}
 use Rattle.lines.proofs.Lengths.{refused-length}
 use Rattle.format.specs.Files.{Said, readOf}
 use Rattle.format.specs.Files.Said.{Line, Refused, Graph}
-use Rattle.report.specs.Report.{longest, inputOf, nodeLines, Answers, Answered}
+use Rattle.report.specs.Report.{longest, inputOf, nodeLines, Answers, longestAnswer, Answered}
 use Rattle.report.specs.Report.Input.{TooLong, Says}
 use Rattle.report.proofs.Small.{SmallSaid, read-small}
-
-abbrev pub longestAnswer : ℕ
-longestAnswer = 192
 
 -- ---- the lines of nodes
 lines-length : (l : List ℕ) → ((k : ℕ) → List·Memᴰ k l → k < 100) → length (nodeLines l) ≤ 3 * length l

@@ -3,10 +3,11 @@ use mathlib.Core.Path.{_≡_}
 use mathlib.Core.Bool.{cond}
 use mathlib.Core.Logic.{_↔_}
 use mathlib.Core.List.{List, [], _∷_, _++_, List·Memᴰ}
-use Prim.Native.Nat.{ℕ, _<_}
+use Prim.Native.Nat.{ℕ, _*_, _<_}
 use lib.Dec.{ltb}
 use lib.ListN.{length}
 use Rattle.lemmas.specs.Lists.{Ascending}
+use Rattle.nodes.specs.Words.{places}
 use Rattle.waits.specs.Deadlocked.{Deadlocked}
 use Rattle.waits.specs.Rows.{waitsOf}
 use Rattle.waits.specs.Numbers.{checkOf}
@@ -50,6 +51,10 @@ Answers TooLong t = t ≡ refusedLine 21 0
 Answers (Says (Line line)) t = t ≡ refusalLine (Outcome·Line line)
 Answers (Says (Refused r)) t = t ≡ refusalLine (Outcome·Refused r)
 Answers (Says (Graph n rows)) t = (l : List ℕ) × Stuck n rows l × (t ≡ nodeLines l)
+
+-- no answer is longer: three bytes for each of as many nodes as a set has places for; a refusal has 20 at most
+abbrev pub longestAnswer : ℕ
+longestAnswer = 3 * places
 
 -- the input that a file of these rows is
 abbrev pub inputIs : ℕ → List ℕ → Input

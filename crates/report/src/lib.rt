@@ -1,9 +1,11 @@
 // A file of waits in, the answer out: who is deadlocked in the graph that it says, or its refusal.
 ghost use mathlib.Core.Path.{_≡_};
+ghost use Prim.Native.Nat.{_+_};
+ghost use lib.ListN.{replicate};
 ghost use Rattle.nodes.specs.Sets.{members};
 ghost use Rattle.nodes.specs.Words.{num};
 ghost use Rattle.text.specs.Text.{text, write};
-ghost use Rattle.report.specs.Report.{inputOf, nodeLines, refusalLine, inputIs, Answered};
+ghost use Rattle.report.specs.Report.{longest, inputOf, nodeLines, refusalLine, longestAnswer, inputIs, Answered};
 use deadlock::Found;
 use deadlock::all_deadlocked;
 use lines::refused;
@@ -19,8 +21,25 @@ use waits::ROW;
 // More bytes than a file may have are not looked into.
 pub const BYTES: usize = 65_536;
 
+// One byte more than a file may have, so that a longer one is seen to be too long.
+pub const FILE: usize = 65_537;
+
 // No answer is longer: it has a line of at most three bytes for each of at most 64 nodes, or is a refusal of at most 20.
 pub const TEXT: usize = 192;
+
+// Room for a file.
+pub fn file_room() -> [u8; FILE]
+    ensures { λ r. ⌜ r ≡ replicate (longest + 1) 0 ⌝ }
+{
+    [0; FILE]
+}
+
+// Room for any answer.
+pub fn text_room() -> [u8; TEXT]
+    ensures { λ r. ⌜ r ≡ replicate longestAnswer 0 ⌝ }
+{
+    [0; TEXT]
+}
 
 // The members of a set, ascending, one a line.
 fn node_lines(room: &mut [u8], at: usize, s: Set) -> usize

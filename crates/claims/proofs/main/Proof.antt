@@ -6,11 +6,14 @@ use Rattle.text.proofs.Writing.{written-end}
 use Rattle.claims.proofs.main.Statement.{statement}
 use Rattle.claims.proofs.main.Tie as tie
 
+file-room-requires : tie.Need-file-room-requires
+file-room-requires c κs = search needs
+
 text-room-requires : tie.Need-text-room-requires
 text-room-requires c κs = search needs
 
-room-requires : tie.Need-room-requires
-room-requires c κs = search needs
+words-room-requires : tie.Need-words-room-requires
+words-room-requires c κs = search needs
 
 slice-aggregate-read-full : tie.Need-slice-aggregate-read-full
 slice-aggregate-read-full c = search needs
@@ -67,8 +70,9 @@ pub main-spec : {M : Type 1} → statement M
 main-spec =
     tie.close
     (tie.spec
+    file-room-requires
     text-room-requires
-    room-requires
+    words-room-requires
     slice-aggregate-read-full
     read-full-requires
     array-share-prefix-file
