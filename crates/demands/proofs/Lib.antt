@@ -1,4 +1,4 @@
--- The demands, the same end of two runs, and the table of the small mornings, proved.
+-- The demands, all controllers together, the same end of two runs, and the table of the small mornings, proved.
 pub mod Said
 pub mod Asked
 pub mod Refused

@@ -1,4 +1,4 @@
--- What was demanded and what was asked for later, over the definitions of the other crates, and the small mornings in one table.
+-- What was demanded and what was asked for later, all controllers together, and the small mornings in one table.
 pub mod Turns
 pub mod Refusals
 pub mod Alone
