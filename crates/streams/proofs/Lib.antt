@@ -1,0 +1,2 @@
+-- What was moved.
+pub mod Within

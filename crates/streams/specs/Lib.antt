@@ -1,0 +1,2 @@
+-- How many bytes were moved, at most.
+pub mod Streams
