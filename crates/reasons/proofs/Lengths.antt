@@ -65,7 +65,7 @@ of-length line words n h l =
 fault-length : (line : ℕ) (f : Fault) → line < 100000 → AtMost 84 (faultWords line f)
 unfolding faultWords word
 fault-length line EmptyFile h = omega arith
-fault-length line Mark h = omega arith
+fault-length line Mark h = let l = of-length line (word " begins with a byte-order mark, which is no part of the header") 62 h (omega arith) in omega arith
 fault-length line NoHeader h = let l = of-length line (word " isn't the header node,kind,threshold,set1,set2,set3,set4") 57 h (omega arith) in omega arith
 fault-length line BareLf h = let l = of-length line (word " ends in LF where CR LF is wanted") 33 h (omega arith) in omega arith
 fault-length line Semicolons h = let l = of-length line (word ": its fields are separated by semicolons where commas are wanted") 64 h (omega arith) in omega arith
@@ -86,10 +86,7 @@ fault-length line NotNext h =
 line-length : (bytes : List ℕ) (n : ℕ) → n < 100000 → AtMost longestReason (lineReason bytes n)
 unfolding lineReason word
 line-length bytes n h =
-    let p : List ℕ = word "claims: " ++ faultWords n (faultOf bytes n) in
-    let l = joined p (word "\n") 92 1
-    (joined (word "claims: ") (faultWords n (faultOf bytes n)) 8 84 (omega arith) (fault-length n (faultOf bytes n) h))
-    (omega arith) in
+    let l = joined (faultWords n (faultOf bytes n)) (word "\n") 84 1 (fault-length n (faultOf bytes n) h) (omega arith) in
     omega arith
 
 -- the words of a number are at most as long as the longest of the table
@@ -118,10 +115,9 @@ place-length number row h =
 graph-length : (r : Refusal) → r .row .0 < places → AtMost longestReason (graphReason r)
 unfolding graphReason word
 graph-length r h =
-    let p₁ : List ℕ = word "claims: " ++ placeWords (r .number) (r .row .0) in
-    let p₂ : List ℕ = p₁ ++ numberWords (r .number) in
-    let l = joined p₂ (word "\n") 95 1
-    (joined p₁ (numberWords (r .number)) 16 79 (joined (word "claims: ") (placeWords (r .number) (r .row .0)) 8 8 (omega arith) (place-length (r .number) (r .row .0) h)) (number-length (r .number)))
+    let p : List ℕ = placeWords (r .number) (r .row .0) in
+    let l = joined (p ++ numberWords (r .number)) (word "\n") 87 1
+    (joined p (numberWords (r .number)) 8 79 (place-length (r .number) (r .row .0) h) (number-length (r .number)))
     (omega arith) in
     omega arith
 

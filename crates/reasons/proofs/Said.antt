@@ -58,7 +58,7 @@ unfolding write
 nothing-said t = refl
 
 module _ (bytes : List ℕ) (t : Text) {u : Text} where
-  pub long-said : longest < length bytes → u ≡ write t (word "claims: the file has more than 65536 bytes\n") → u ≡ write t (reasonOf bytes)
+  pub long-said : longest < length bytes → u ≡ write t (word "the file has more than 65536 bytes\n") → u ≡ write t (reasonOf bytes)
   unfolding reasonOf inputOf reasonFor
   long-said h e = e ∙ ap (λ (b : Input). write t (reasonFor bytes b)) (at-true _ (lt-ltb longest (length bytes) h) refl)
 

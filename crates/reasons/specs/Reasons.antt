@@ -20,7 +20,7 @@ use Rattle.report.specs.Report.Input.{TooLong, Says}
 
 -- no reason is longer
 abbrev pub longestReason : ℕ
-longestReason = 96
+longestReason = 88
 
 -- ---- a line that breaks a rule
 
@@ -46,7 +46,7 @@ ofLine line words = word "line " ++ decimal line ++ words
 -- what is wrong with a line; line k + 2 is that of node k
 unfoldable pub faultWords : (line : ℕ) → Fault → List ℕ
 faultWords line EmptyFile = word "the file is empty; line 1 must be the header node,kind,threshold,set1,set2,set3,set4"
-faultWords line Mark = word "the file begins with a byte-order mark, which is no part of the header"
+faultWords line Mark = ofLine line (word " begins with a byte-order mark, which is no part of the header")
 faultWords line NoHeader = ofLine line (word " isn't the header node,kind,threshold,set1,set2,set3,set4")
 faultWords line BareLf = ofLine line (word " ends in LF where CR LF is wanted")
 faultWords line Semicolons = ofLine line (word ": its fields are separated by semicolons where commas are wanted")
@@ -55,7 +55,7 @@ faultWords line MoreFields = ofLine line (word ": it has more than seven fields"
 faultWords line NotNext = ofLine line (word ": its node isn't ") ++ decimal (line - 2) ++ word ", the next one"
 
 unfoldable pub lineReason : List ℕ → ℕ → List ℕ
-lineReason bytes line = word "claims: " ++ faultWords line (faultOf bytes line) ++ word "\n"
+lineReason bytes line = faultWords line (faultOf bytes line) ++ word "\n"
 
 -- ---- a graph that is refused
 
@@ -84,13 +84,13 @@ unfoldable pub placeWords : (number row : ℕ) → List ℕ
 placeWords number row = cond (leb 2 number && leb number 7) (word "row " ++ decimal row ++ word ": ") []
 
 unfoldable pub graphReason : Refusal → List ℕ
-graphReason r = word "claims: " ++ placeWords (r .number) (r .row .0) ++ numberWords (r .number) ++ word "\n"
+graphReason r = placeWords (r .number) (r .row .0) ++ numberWords (r .number) ++ word "\n"
 
 -- ---- a file
 
 -- what is said of a file's bytes, once it is known what they say: nothing of a graph that isn't refused
 unfoldable pub reasonFor : List ℕ → Input → List ℕ
-reasonFor bytes TooLong = word "claims: the file has more than 65536 bytes\n"
+reasonFor bytes TooLong = word "the file has more than 65536 bytes\n"
 reasonFor bytes (Says (Line line)) = lineReason bytes line
 reasonFor bytes (Says (Refused r)) = graphReason r
 reasonFor bytes (Says (Graph n rows)) = []

@@ -16,7 +16,7 @@ use waits::Refusal;
 mod words;
 
 // No such line is longer.
-pub const WORDS: usize = 96;
+pub const WORDS: usize = 88;
 
 // Room for any reason.
 pub fn words_room() -> [u8; WORDS]
@@ -30,8 +30,7 @@ fn line_reason(file: &[u8], line: usize, room: &mut [u8]) -> usize
     ensures { λ r. ⌜ text (now (room .exit)) r ≡ write (text (now (room .entry)) 0) (lineReason (now (file .entry)) line) ⌝ }
 {
     let fault = fault_of(file, line);
-    let mut at = bytes(room, 0, b"claims: ");
-    at = fault_words(room, at, line, fault);
+    let at = fault_words(room, 0, line, fault);
     bytes(room, at, b"\n")
 }
 
@@ -40,8 +39,7 @@ fn graph_reason(r: Refusal, room: &mut [u8]) -> usize
     ensures { λ e. ⌜ text (now (room .exit)) e ≡ write (text (now (room .entry)) 0) (graphReason r) ⌝ }
 {
     let row = r.row;
-    let mut at = bytes(room, 0, b"claims: ");
-    at = place_words(room, at, r.number, row.0 as u64);
+    let mut at = place_words(room, 0, r.number, row.0 as u64);
     at = number_words(room, at, r.number);
     bytes(room, at, b"\n")
 }
@@ -51,7 +49,7 @@ pub fn reasons(file: &[u8], room: &mut [u8]) -> usize
     ensures { λ r. ⌜ text (now (room .exit)) r ≡ write (text (now (room .entry)) 0) (reasonOf (now (file .entry))) ⌝ }
 {
     if BYTES < file.len() {
-        return bytes(room, 0, b"claims: the file has more than 65536 bytes\n");
+        return bytes(room, 0, b"the file has more than 65536 bytes\n");
     }
     let said = read_file(file);
     let outcome = said.outcome;

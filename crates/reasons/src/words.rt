@@ -77,10 +77,11 @@ pub fn fault_words(room: &mut [u8], at: usize, line: usize, f: Fault) -> usize
             at,
             b"the file is empty; line 1 must be the header node,kind,threshold,set1,set2,set3,set4",
         ),
-        Fault::Mark => bytes(
+        Fault::Mark => of_line(
             room,
             at,
-            b"the file begins with a byte-order mark, which is no part of the header",
+            line,
+            b" begins with a byte-order mark, which is no part of the header",
         ),
         Fault::NoHeader => of_line(
             room,

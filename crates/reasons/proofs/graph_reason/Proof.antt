@@ -6,40 +6,32 @@ use Rattle.reasons.specs.Reasons.{graphReason}
 use Rattle.reasons.proofs.graph_reason.Statement.{statement}
 use Rattle.reasons.proofs.graph_reason.Tie as tie
 
-slice-aggregate-bytes : tie.Need-slice-aggregate-bytes
-slice-aggregate-bytes c = search needs
-
-bytes-requires : tie.Need-bytes-requires
-bytes-requires c κs = search needs
-
 place-words-requires : tie.Need-place-words-requires
 place-words-requires c κs = search needs
 
 number-words-requires : tie.Need-number-words-requires
 number-words-requires c κs = search needs
 
-slice-aggregate-bytes-2 : tie.Need-slice-aggregate-bytes-2
-slice-aggregate-bytes-2 c = search needs
+slice-aggregate-bytes : tie.Need-slice-aggregate-bytes
+slice-aggregate-bytes c = search needs
 
-bytes-requires-2 : tie.Need-bytes-requires-2
-bytes-requires-2 c κs = search needs
+bytes-requires : tie.Need-bytes-requires
+bytes-requires c κs = search needs
 
 same-length : tie.Need-same-length
 same-length c = search needs
 
 returns : tie.Need-returns
 unfolding graphReason word
-returns c = write-both _ _ _ (write-both _ _ _ (write-both _ _ _ (c .before .before .before .before .before .before .before .before .before .before .before .before .before .before .before .bytes .ensures) (c .before .before .before .before .before .before .before .before .before .before .before .place-words .ensures)) (c .before .before .before .before .before .before .before .number-words .ensures)) (c .before .before .bytes2 .ensures)
+returns c = write-both _ _ _ (write-both _ _ _ (c .before .before .before .before .before .before .before .before .before .before .before .place-words .ensures) (c .before .before .before .before .before .before .before .number-words .ensures)) (c .before .before .bytes .ensures)
 
 pub graph-reason-spec : {M : Type 1} → statement M
 graph-reason-spec =
     tie.close
     (tie.spec
-    slice-aggregate-bytes
-    bytes-requires
     place-words-requires
     number-words-requires
-    slice-aggregate-bytes-2
-    bytes-requires-2
+    slice-aggregate-bytes
+    bytes-requires
     same-length
     returns)

@@ -11,37 +11,29 @@ use Rattle.reasons.proofs.line_reason.Tie as tie
 fault-of-requires : tie.Need-fault-of-requires
 fault-of-requires c κs = search needs
 
+fault-words-requires : tie.Need-fault-words-requires
+fault-words-requires c κs = search needs
+
 slice-aggregate-bytes : tie.Need-slice-aggregate-bytes
 slice-aggregate-bytes c = search needs
 
 bytes-requires : tie.Need-bytes-requires
 bytes-requires c κs = search needs
 
-fault-words-requires : tie.Need-fault-words-requires
-fault-words-requires c κs = search needs
-
-slice-aggregate-bytes-2 : tie.Need-slice-aggregate-bytes-2
-slice-aggregate-bytes-2 c = search needs
-
-bytes-requires-2 : tie.Need-bytes-requires-2
-bytes-requires-2 c κs = search needs
-
 same-length : tie.Need-same-length
 same-length c = search needs
 
 returns : tie.Need-returns
 unfolding lineReason word
-returns c = write-both _ _ _ (write-both _ _ _ (c .before .before .before .before .before .before .before .before .before .before .before .bytes .ensures) (in-fault _ _ (sym (c .before .before .before .before .before .before .before .before .before .before .before .before .before .before .fault-of .ensures)) (c .before .before .before .before .before .before .before .fault-words .ensures))) (c .before .before .bytes2 .ensures)
+returns c = write-both _ _ _ (in-fault _ _ (sym (c .before .before .before .before .before .before .before .before .before .fault-of .ensures)) (c .before .before .before .before .before .before .before .fault-words .ensures)) (c .before .before .bytes .ensures)
 
 pub line-reason-spec : {M : Type 1} → statement M
 line-reason-spec =
     tie.close
     (tie.spec
     fault-of-requires
+    fault-words-requires
     slice-aggregate-bytes
     bytes-requires
-    fault-words-requires
-    slice-aggregate-bytes-2
-    bytes-requires-2
     same-length
     returns)

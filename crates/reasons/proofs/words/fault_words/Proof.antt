@@ -21,23 +21,14 @@ bytes-requires c κs = search needs
 enum-told-2 : tie.Need-enum-told-2
 enum-told-2 c = search needs
 
-slice-aggregate-bytes-2 : tie.Need-slice-aggregate-bytes-2
-slice-aggregate-bytes-2 c = search needs
-
-bytes-requires-2 : tie.Need-bytes-requires-2
-bytes-requires-2 c κs = search needs
-
-enum-told-3 : tie.Need-enum-told-3
-enum-told-3 c = search needs
-
 slice-aggregate-of-line : tie.Need-slice-aggregate-of-line
 slice-aggregate-of-line c = search needs
 
 of-line-requires : tie.Need-of-line-requires
 of-line-requires c κs = search needs
 
-enum-told-4 : tie.Need-enum-told-4
-enum-told-4 c = search needs
+enum-told-3 : tie.Need-enum-told-3
+enum-told-3 c = search needs
 
 slice-aggregate-of-line-2 : tie.Need-slice-aggregate-of-line-2
 slice-aggregate-of-line-2 c = search needs
@@ -45,8 +36,8 @@ slice-aggregate-of-line-2 c = search needs
 of-line-requires-2 : tie.Need-of-line-requires-2
 of-line-requires-2 c κs = search needs
 
-enum-told-5 : tie.Need-enum-told-5
-enum-told-5 c = search needs
+enum-told-4 : tie.Need-enum-told-4
+enum-told-4 c = search needs
 
 slice-aggregate-of-line-3 : tie.Need-slice-aggregate-of-line-3
 slice-aggregate-of-line-3 c = search needs
@@ -54,14 +45,23 @@ slice-aggregate-of-line-3 c = search needs
 of-line-requires-3 : tie.Need-of-line-requires-3
 of-line-requires-3 c κs = search needs
 
-enum-known-f : tie.Need-enum-known-f
-enum-known-f c = search needs
+enum-told-5 : tie.Need-enum-told-5
+enum-told-5 c = search needs
 
 slice-aggregate-of-line-4 : tie.Need-slice-aggregate-of-line-4
 slice-aggregate-of-line-4 c = search needs
 
 of-line-requires-4 : tie.Need-of-line-requires-4
 of-line-requires-4 c κs = search needs
+
+enum-known-f : tie.Need-enum-known-f
+enum-known-f c = search needs
+
+slice-aggregate-of-line-5 : tie.Need-slice-aggregate-of-line-5
+slice-aggregate-of-line-5 c = search needs
+
+of-line-requires-5 : tie.Need-of-line-requires-5
+of-line-requires-5 c κs = search needs
 
 column-name-requires : tie.Need-column-name-requires
 column-name-requires c κs = search needs
@@ -72,20 +72,20 @@ flaw-words-requires c κs = search needs
 enum-told-6 : tie.Need-enum-told-6
 enum-told-6 c = search needs
 
-slice-aggregate-of-line-5 : tie.Need-slice-aggregate-of-line-5
-slice-aggregate-of-line-5 c = search needs
-
-of-line-requires-5 : tie.Need-of-line-requires-5
-of-line-requires-5 c κs = search needs
-
-enum-told-7 : tie.Need-enum-told-7
-enum-told-7 c = search needs
-
 slice-aggregate-of-line-6 : tie.Need-slice-aggregate-of-line-6
 slice-aggregate-of-line-6 c = search needs
 
 of-line-requires-6 : tie.Need-of-line-requires-6
 of-line-requires-6 c κs = search needs
+
+enum-told-7 : tie.Need-enum-told-7
+enum-told-7 c = search needs
+
+slice-aggregate-of-line-7 : tie.Need-slice-aggregate-of-line-7
+slice-aggregate-of-line-7 c = search needs
+
+of-line-requires-7 : tie.Need-of-line-requires-7
+of-line-requires-7 c κs = search needs
 
 node-on-requires : tie.Need-node-on-requires
 node-on-requires c κs = search needs
@@ -93,11 +93,11 @@ node-on-requires c κs = search needs
 number-requires : tie.Need-number-requires
 number-requires c κs = search needs
 
-slice-aggregate-bytes-3 : tie.Need-slice-aggregate-bytes-3
-slice-aggregate-bytes-3 c = search needs
+slice-aggregate-bytes-2 : tie.Need-slice-aggregate-bytes-2
+slice-aggregate-bytes-2 c = search needs
 
-bytes-requires-3 : tie.Need-bytes-requires-3
-bytes-requires-3 c κs = search needs
+bytes-requires-2 : tie.Need-bytes-requires-2
+bytes-requires-2 c κs = search needs
 
 same-length : tie.Need-same-length
 same-length c = search needs
@@ -111,49 +111,49 @@ same-length-2 c = search needs
 
 returns-2 : tie.Need-returns-2
 unfolding faultWords word
-returns-2 c = in-fault _ _ (c .before .before .before .before .before .enum-told2 .given .1) (c .before .before .bytes2 .ensures)
+returns-2 c = in-fault _ _ (c .before .before .before .before .before .enum-told2 .given .1) (c .before .before .of-line .ensures)
 
 same-length-3 : tie.Need-same-length-3
 same-length-3 c = search needs
 
 returns-3 : tie.Need-returns-3
 unfolding faultWords word
-returns-3 c = in-fault _ _ (c .before .before .before .before .before .enum-told3 .given .1) (c .before .before .of-line .ensures)
+returns-3 c = in-fault _ _ (c .before .before .before .before .before .enum-told3 .given .1) (c .before .before .of-line2 .ensures)
 
 same-length-4 : tie.Need-same-length-4
 same-length-4 c = search needs
 
 returns-4 : tie.Need-returns-4
 unfolding faultWords word
-returns-4 c = in-fault _ _ (c .before .before .before .before .before .enum-told4 .given .1) (c .before .before .of-line2 .ensures)
+returns-4 c = in-fault _ _ (c .before .before .before .before .before .enum-told4 .given .1) (c .before .before .of-line3 .ensures)
 
 same-length-5 : tie.Need-same-length-5
 same-length-5 c = search needs
 
 returns-5 : tie.Need-returns-5
 unfolding faultWords word
-returns-5 c = in-fault _ _ (c .before .before .before .before .before .enum-told5 .given .1) (c .before .before .of-line3 .ensures)
+returns-5 c = in-fault _ _ (c .before .before .before .before .before .enum-told5 .given .1) (c .before .before .of-line4 .ensures)
 
 same-length-6 : tie.Need-same-length-6
 same-length-6 c = search needs
 
 returns-6 : tie.Need-returns-6
 unfolding faultWords word
-returns-6 c = in-fault _ _ (c .before .before .before .before .before .before .before .before .before .before .before .before .before .before .f .given .1) (write-both _ _ _ (write-both _ _ _ (c .before .before .before .before .before .before .before .before .before .before .of-line4 .ensures) (c .before .before .before .before .before .before .column-name .ensures)) (c .before .before .flaw-words .ensures))
+returns-6 c = in-fault _ _ (c .before .before .before .before .before .before .before .before .before .before .before .before .before .before .f .given .1) (write-both _ _ _ (write-both _ _ _ (c .before .before .before .before .before .before .before .before .before .before .of-line5 .ensures) (c .before .before .before .before .before .before .column-name .ensures)) (c .before .before .flaw-words .ensures))
 
 same-length-7 : tie.Need-same-length-7
 same-length-7 c = search needs
 
 returns-7 : tie.Need-returns-7
 unfolding faultWords word
-returns-7 c = in-fault _ _ (c .before .before .before .before .before .enum-told6 .given .1) (c .before .before .of-line5 .ensures)
+returns-7 c = in-fault _ _ (c .before .before .before .before .before .enum-told6 .given .1) (c .before .before .of-line6 .ensures)
 
 same-length-8 : tie.Need-same-length-8
 same-length-8 c = search needs
 
 returns-8 : tie.Need-returns-8
 unfolding faultWords word
-returns-8 c = in-fault _ _ (c .before .before .before .before .before .before .before .before .before .before .before .before .before .before .before .enum-told7 .given .1) (write-both _ _ _ (write-both _ _ _ (c .before .before .before .before .before .before .before .before .before .before .before .before .of-line6 .ensures) ((c .before .before .before .before .before .before .before .number .ensures) ∙ ap (write _) (ap decimal (c .before .before .before .before .before .before .before .before .node-on .ensures)))) (c .before .before .bytes3 .ensures))
+returns-8 c = in-fault _ _ (c .before .before .before .before .before .before .before .before .before .before .before .before .before .before .before .enum-told7 .given .1) (write-both _ _ _ (write-both _ _ _ (c .before .before .before .before .before .before .before .before .before .before .before .before .of-line7 .ensures) ((c .before .before .before .before .before .before .before .number .ensures) ∙ ap (write _) (ap decimal (c .before .before .before .before .before .before .before .before .node-on .ensures)))) (c .before .before .bytes2 .ensures))
 
 pub fault-words-spec : {M : Type 1} → statement M
 fault-words-spec =
@@ -163,32 +163,32 @@ fault-words-spec =
     slice-aggregate-bytes
     bytes-requires
     enum-told-2
-    slice-aggregate-bytes-2
-    bytes-requires-2
-    enum-told-3
     slice-aggregate-of-line
     of-line-requires
-    enum-told-4
+    enum-told-3
     slice-aggregate-of-line-2
     of-line-requires-2
-    enum-told-5
+    enum-told-4
     slice-aggregate-of-line-3
     of-line-requires-3
-    enum-known-f
+    enum-told-5
     slice-aggregate-of-line-4
     of-line-requires-4
+    enum-known-f
+    slice-aggregate-of-line-5
+    of-line-requires-5
     column-name-requires
     flaw-words-requires
     enum-told-6
-    slice-aggregate-of-line-5
-    of-line-requires-5
-    enum-told-7
     slice-aggregate-of-line-6
     of-line-requires-6
+    enum-told-7
+    slice-aggregate-of-line-7
+    of-line-requires-7
     node-on-requires
     number-requires
-    slice-aggregate-bytes-3
-    bytes-requires-3
+    slice-aggregate-bytes-2
+    bytes-requires-2
     same-length
     returns
     same-length-2
