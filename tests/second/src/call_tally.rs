@@ -1,4 +1,4 @@
-//! What a trial of calls has really tried. Everything that can occur is expected, and a trial that misses any of it fails.
+//! What a trial of calls has really tried. Everything that can occur is expected, and a long trial that misses any of it fails.
 
 use crate::alone::Alone;
 use crate::bench::MOST_ROOM;
@@ -16,20 +16,21 @@ use std::fmt;
 use std::process::ExitCode;
 
 /// The calls that judge rows. Of a bench whose rows are refused it is said only that they are, with 13.
-const JUDGES_OF_ROWS: [&str; 8] = [
+const JUDGES_OF_ROWS: [&str; 9] = [
     "check",
     "deadlocked",
     "all_deadlocked",
     "write_evidence",
     "check_evidence",
     "ring",
+    "in",
     "open",
     "deliver",
 ];
 
 /// An opening never ends deadlocked: a node that isn't free has waits.
 #[rustfmt::skip]
-const EXPECTED: [(&str, &str); 28] = [
+const EXPECTED: [(&str, &str); 30] = [
     ("check:", "accepted, refused 1, refused 8"),
     ("deadlocked:", "no, yes, refused 1, refused 8, refused 9"),
     ("all_deadlocked:", "written, refused 1, refused 8"),
@@ -47,6 +48,8 @@ const EXPECTED: [(&str, &str); 28] = [
         of 200 and more, would pass in order, would lack the claim in order, would fail at a member in order"),
     ("member named:", "active, the claim, at the first place, at a later place, not the last satisfied"),
     ("ring:", "not deadlocked, in, behind, behind with a path back, refused 1, refused 8, refused 9"),
+    ("in:", "written, refused 1, refused 8, refused 9"),
+    ("waiting on a node:", "nobody, one, several"),
     ("open:", "120, 122, refused 1, refused 9, refused 10, refused 13"),
     ("open 13 for:", "IN, a record's round, a record's call, a record's freed, a record's set"),
     ("controller of:", "1 node, 2 to 63 nodes, 64 nodes, 64 nodes and the last"),
@@ -128,6 +131,10 @@ impl CallTally {
                 self.refused_list(rows, *node as usize, list, result);
                 self.failing_list(rows, *node as usize, list, result);
             }
+            In(rows, _, set) => {
+                self.graph(rows);
+                self.waiting(*set, result);
+            }
             Open(alone, _) => {
                 self.controller(alone);
                 self.strange(name, result, alone, None);
@@ -142,6 +149,17 @@ impl CallTally {
                 self.bench(bench, result, &[result]);
             }
             Run(bench, steps, answers) => self.run(bench, result, steps, answers),
+        }
+    }
+
+    fn waiting(&mut self, set: u64, result: u64) {
+        if result >= SAID {
+            let waiting = match set.count_ones() {
+                0 => "nobody",
+                1 => "one",
+                _ => "several",
+            };
+            self.add("waiting on a node", waiting);
         }
     }
 

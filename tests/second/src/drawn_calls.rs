@@ -7,7 +7,7 @@ use crate::library::LibraryCall::{self, *};
 use crate::prng::Prng;
 
 /// Taken in turn. Those with most to show come most often.
-const DRAWS: [fn(&mut Prng) -> LibraryCall; 20] = [
+const DRAWS: [fn(&mut Prng) -> LibraryCall; 21] = [
     check,
     deliver,
     step,
@@ -19,6 +19,7 @@ const DRAWS: [fn(&mut Prng) -> LibraryCall; 20] = [
     check_evidence,
     open,
     all_deadlocked,
+    waiting_on,
     deliver,
     step,
     ring,
@@ -68,6 +69,12 @@ fn ring(rng: &mut Prng) -> LibraryCall {
     let rows = rows(rng);
     let node = node(rng, &rows);
     Ring(rows, node)
+}
+
+fn waiting_on(rng: &mut Prng) -> LibraryCall {
+    let rows = rows(rng);
+    let node = node(rng, &rows);
+    In(rows, node, rng.next())
 }
 
 fn open(rng: &mut Prng) -> LibraryCall {

@@ -29,7 +29,18 @@ pub const KINDS: Kinds = &[
     ("the rest cut off", Bytes(|rng, bytes| bytes.truncate(rng.below(bytes.len())))),
     ("all but a few cut off", Bytes(|rng, bytes| bytes.truncate(rng.below(50)))),
     ("none at all", Bytes(|_, bytes| bytes.clear())),
+    ("commas turned into semicolons", Bytes(|_, bytes| semicolons(bytes))),
+    ("commas of the rows turned into semicolons", Bytes(|_, bytes| {
+        let header = bytes.iter().position(|byte| *byte == b'\n').unwrap_or(0);
+        semicolons(&mut bytes[header..]);
+    })),
 ];
+
+fn semicolons(bytes: &mut [u8]) {
+    for byte in bytes.iter_mut().filter(|byte| **byte == b',') {
+        *byte = b';';
+    }
+}
 
 /// Those that a file is made of come most often, then the neighbours of the digits and other odd ones.
 fn any(rng: &mut Prng) -> u8 {

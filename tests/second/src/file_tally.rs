@@ -3,6 +3,7 @@
 use crate::claims::{Outcome, MOST_BYTES};
 use crate::counts::Counts;
 use crate::drawn_files::{self, Drawn};
+use crate::file_faults;
 use crate::graph::{NodeSet, Refusal};
 use crate::sheet::LINE_END;
 use std::fmt;
@@ -10,12 +11,15 @@ use std::process::ExitCode;
 
 /// Besides the kinds of files.
 #[rustfmt::skip]
-const EXPECTED: [(&str, &str); 7] = [
+const EXPECTED: [(&str, &str); 8] = [
     ("answer:", "none deadlocked, some deadlocked, all deadlocked, refused 1, refused 2, refused 3, refused 4, \
         refused 5, refused 6, refused 7, refused 8, refused 20, refused 21"),
     ("refused in row 0:", "2, 3, 4, 5, 6, 7"),
     ("refused in a later row:", "2, 3, 4, 5, 6, 7"),
     ("refused 20:", "at the header, at the first row, at a middle row, at the last line"),
+    ("told:", "the file is empty, a byte-order mark, in LF, semicolons, isn't the header, is missing, is empty, isn't a digit, \
+        past 64 bits, a space too many, neither a digit nor a space, a member over 63, a member twice, isn't ascending, \
+        more than seven fields, the next one"),
     ("rows read:", "0, 1, 2 to 62, 63, 64, 65, more"),
     ("bytes read:", "65535, 65536"),
     ("bytes refused 21:", "65537, more"),
@@ -75,6 +79,7 @@ impl FileTally {
             _ => "at the last line",
         };
         self.add("refused 20", place);
+        self.add("told", told(&file_faults::words(bytes, line)));
     }
 
     fn refused(&mut self, refusal: &Refusal) {
@@ -100,6 +105,14 @@ impl FileTally {
             self.add("bytes read", &bytes.to_string());
         }
     }
+}
+
+/// What a clerk is told of a line, by the words that tell it from the others; the empty file before the empty field.
+fn told(words: &str) -> &'static str {
+    let mut telling = EXPECTED.iter().filter(|(group, _)| *group == "told:");
+    let endings = telling.next().map_or("", |(_, endings)| *endings);
+    let mut found = endings.split(", ").filter(|ending| words.contains(ending));
+    found.next().unwrap_or("something else")
 }
 
 fn rows_read(rows: u64) -> &'static str {

@@ -8,6 +8,7 @@ use crate::file_laws;
 use crate::file_tally::FileTally;
 use crate::pipe::{readable, Output, Program};
 use crate::rewrite;
+use crate::said::{self, Speaker};
 use std::io;
 use std::process::ExitCode;
 use std::sync::Mutex;
@@ -20,6 +21,7 @@ const MANY: u64 = 20_000;
 /// What a program must make of a file.
 pub struct Task {
     trial: &'static str,
+    speaker: Speaker,
     text: fn(&Outcome) -> String,
     /// What is wrong with the text of a program that wrote what it must.
     fault_beside: fn(&Program, &Outcome, &[u8]) -> io::Result<Option<String>>,
@@ -27,12 +29,14 @@ pub struct Task {
 
 pub const CLAIMS: Task = Task {
     trial: "files",
+    speaker: said::CLAIMS,
     text: Outcome::to_string,
     fault_beside: |_, _, _| Ok(None),
 };
 
 pub const REWRITE: Task = Task {
     trial: "rewrites",
+    speaker: said::REWRITE,
     text: rewrite::text,
     fault_beside: rewrite::fault_in_back,
 };
@@ -76,7 +80,7 @@ impl FileTrial<'_> {
         let output = self.program.run(bytes)?;
         let fault = match file_laws::broken(&drawn.file, &outcome) {
             Some(law) => Some(format!("our own side breaks a law: {law}")),
-            None => self.fault(&outcome, &expected, &output)?,
+            None => self.fault(bytes, &outcome, &expected, &output)?,
         };
         Ok(fault.map(|fault| {
             let (file, got) = (readable(bytes), readable(&output.bytes));
@@ -91,12 +95,14 @@ impl FileTrial<'_> {
 
     fn fault(
         &self,
+        file: &[u8],
         outcome: &Outcome,
         expected: &str,
         output: &Output,
     ) -> io::Result<Option<String>> {
         let fault = output.fault(expected.as_bytes());
-        match fault.or_else(|| outcome.fault_in_errors(&output.errors)) {
+        let speaker = &self.task.speaker;
+        match fault.or_else(|| speaker.fault(outcome, file, &output.errors)) {
             Some(fault) => Ok(Some(fault)),
             None => (self.task.fault_beside)(&self.program, outcome, &output.bytes),
         }

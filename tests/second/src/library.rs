@@ -1,4 +1,4 @@
-//! The ten calls of the library for C: what each is handed, what the rules make of it, and both as lines of numbers.
+//! The eleven calls of the library for C: what each is handed, what the rules make of it, and both as lines of numbers.
 
 use crate::alone::Alone;
 use crate::bench;
@@ -21,6 +21,8 @@ pub enum LibraryCall {
     WriteEvidence(Rows, u64, Vec<u8>),
     CheckEvidence(Rows, u64, Vec<u8>),
     Ring(Rows, u64),
+    /// The last is the place for the set.
+    In(Rows, u64, u64),
     Open(Alone, u64),
     Deliver(Alone, Letter),
     Step(LentBench, bench::Step),
@@ -61,6 +63,10 @@ impl LibraryCall {
                 reduction::Ring::In => 1,
                 reduction::Ring::Behind => 2,
             }),
+            In(rows, node, set) => {
+                *set = bits(&questions::waiting_on(rows, *node)?);
+                Ok(0)
+            }
             Open(alone, round) => alone.open(*round).map(answer_code),
             Deliver(alone, letter) => alone.deliver(*letter).map(answer_code),
             Step(bench, step) => bench.step(*step).map(answer_code),
@@ -78,6 +84,7 @@ impl LibraryCall {
             WriteEvidence(rows, node, bytes) | CheckEvidence(rows, node, bytes) => {
                 write_rows(&mut line, rows).number(*node).list(bytes)
             }
+            In(rows, node, set) => write_rows(&mut line, rows).number(*node).number(*set),
             Open(alone, round) => write_alone(&mut line, alone)
                 .number(*round)
                 .places(&alone.sends),
@@ -95,7 +102,7 @@ impl LibraryCall {
         let mut line = Line::beginning_with(result);
         match self {
             Check(_) | Deadlocked(..) | CheckEvidence(..) | Ring(..) => &mut line,
-            AllDeadlocked(_, set) => line.number(*set),
+            AllDeadlocked(_, set) | In(_, _, set) => line.number(*set),
             WriteEvidence(_, _, room) => line.places(room),
             Open(alone, _) | Deliver(alone, _) => line.places(&alone.record).places(&alone.sends),
             Step(bench, _) => write_state(&mut line, bench),
@@ -116,6 +123,7 @@ impl LibraryCall {
             Deliver(..) => 7,
             Step(..) => 8,
             Run(..) => 9,
+            In(..) => 10,
         }
     }
 }

@@ -5,6 +5,7 @@ use second::claims::Outcome;
 use second::file_trial::{FileTrial, CLAIMS, REWRITE};
 use second::pipe::Program;
 use second::random::Trial;
+use second::said::{self, Speaker};
 use second::{claims, mornings, replay, rewrite, vectors};
 use std::io::{self, Read, Write};
 use std::process::ExitCode;
@@ -32,8 +33,8 @@ fn main() -> ExitCode {
 fn obey(words: &[&str]) -> io::Result<ExitCode> {
     match words {
         ["replay"] => say(&replay::replay(&input()?)),
-        ["claims"] => answer(Outcome::to_string),
-        ["rewrite"] => answer(rewrite::text),
+        ["claims"] => answer(said::CLAIMS, Outcome::to_string),
+        ["rewrite"] => answer(said::REWRITE, rewrite::text),
         ["mornings"] => say(&mornings::text()),
         ["vectors", folder, name, arguments @ ..] => {
             vectors::SCRIPTS.check(folder, &Program { name, arguments })
@@ -82,9 +83,10 @@ fn try_out(trial: &str, seed: u64, count: u64, program: Program) -> io::Result<E
 }
 
 /// What is said of the file on standard input.
-fn answer(text: fn(&Outcome) -> String) -> io::Result<ExitCode> {
-    let outcome = claims::judge(&input()?);
-    io::stderr().write_all(outcome.errors().as_bytes())?;
+fn answer(speaker: Speaker, text: fn(&Outcome) -> String) -> io::Result<ExitCode> {
+    let file = input()?;
+    let outcome = claims::judge(&file);
+    io::stderr().write_all(speaker.words(&outcome, &file).as_bytes())?;
     say(&text(&outcome))
 }
 

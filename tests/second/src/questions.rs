@@ -22,6 +22,13 @@ pub fn ring(rows: &Rows, node: u64) -> Result<Ring, Refusal> {
     Ok(reduction::ring(&graph, node))
 }
 
+/// Everybody who waits on a node.
+pub fn waiting_on(rows: &Rows, node: u64) -> Result<NodeSet, Refusal> {
+    let (graph, node) = graph_and_node(rows, node)?;
+    let waits_on_it = |other: &usize| graph.nodes[*other].out.contains(&node);
+    Ok((0..graph.len()).filter(waits_on_it).collect())
+}
+
 /// What the bytes of a list name, whether such nodes exist or not.
 pub fn named(list: &[u8]) -> NodeSet {
     list.iter().map(|entry| usize::from(*entry)).collect()

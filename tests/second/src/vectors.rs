@@ -3,6 +3,7 @@
 use crate::claims;
 use crate::pipe::{first_difference, Output, Program};
 use crate::replay;
+use crate::said;
 use std::fs;
 use std::io;
 use std::path::{Path, PathBuf};
@@ -25,7 +26,7 @@ pub const SCRIPTS: Written = Written {
 pub const FILES: Written = Written {
     are_csv: true,
     ours: |input| claims::judge(input).to_string(),
-    fault_beside: |input, output| claims::judge(input).fault_in_errors(&output.errors),
+    fault_beside: |input, output| said::CLAIMS.fault(&claims::judge(input), input, &output.errors),
 };
 
 impl Written {

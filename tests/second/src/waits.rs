@@ -7,7 +7,7 @@ use crate::graph::{bits, NodeSet, Row, Rows};
 pub const HEADER: [&str; 7] = ["node", "kind", "threshold", "set1", "set2", "set3", "set4"];
 
 /// A row's set has 64 places, whatever the number of nodes.
-const LARGEST_MEMBER: u64 = 63;
+pub const LARGEST_MEMBER: u64 = 63;
 
 /// The number of the first line that breaks the rules; the header is line 1.
 pub struct BadLine(pub usize);
