@@ -1,11 +1,12 @@
-/* controller.c: a whole controller over coldroom.h, and two of them at work. They play morning 6 of the paper: node 0 waits on
- * node 1, and node 1 waits for nobody. Printed is what each step answers, with how many messages are sent by then, and at the end
- * the messages; the status is 0 if there was a verdict. */
+/* controller.c: a whole controller over coldroom.h, and four of them at work, of which two open rounds. They play morning 9 of the
+ * paper: node 0 waits for two of 1, 2 and 3; node 1 waits for nobody; 2 and 3 wait on 0. Printed is what each step answers, with how
+ * many messages are sent by then, and at the end the messages; the status is 0 if the newest round gave its verdict. */
 #include "coldroom.h"
 #include <stdio.h>
 #include <stdlib.h>
 
-/* What a controller knows, and the record that it keeps: seven zeros before the first round. */
+/* What a controller knows, and the record that it keeps: seven zeros before the first round. A real one stores its record, where a
+ * power cut can't take it, before it sends. */
 struct controller {
     uint64_t nodes;
     uint64_t me;
@@ -14,98 +15,113 @@ struct controller {
     uint64_t record[COLDROOM_RECORD];
 };
 
-struct message {
-    uint64_t kind, from, to, round;
-};
-
 /* What carries the messages. In cold rooms it may lose, repeat, delay and shuffle them; here it is a list. */
 enum { MOST = 64 };
-static struct message sent[MOST];
+static uint64_t sent[MOST];
 static unsigned count;
 
-static void transmit(struct message m)
+static void transmit(uint64_t message)
 {
     if (count == MOST) {
         fprintf(stderr, "controller: more than %d messages\n", MOST);
         exit(2);
     }
-    sent[count++] = m;
+    sent[count++] = message;
+}
+
+/* Where every round gets its number, whichever controller opens it: one of them keeps this counter for all. It is stored before the
+ * number is handed out, so that no number is ever handed out again; one that is never used is just skipped. */
+static uint64_t stored_counter;
+
+static uint64_t next_round(void)
+{
+    stored_counter = stored_counter + 1;
+    return stored_counter;
 }
 
 /* Sends what a step has to send. */
-static void send_all(const struct controller *c, const uint64_t sends[COLDROOM_SENDS])
+static void send_all(const struct controller *c, uint64_t sends[COLDROOM_SENDS])
 {
-    for (uint64_t kind = 0; kind < COLDROOM_SENDS; kind++)
-        for (uint64_t k = 0; k < c->nodes; k++)
-            if (sends[kind] >> k & 1)
-                transmit((struct message){kind, c->me, k, c->record[0]});
+    uint64_t kind, to;
+    while (coldroom_next_send(sends, &kind, &to))
+        transmit(coldroom_message(kind, c->me, to, c->record[COLDROOM_ROUND]));
 }
 
-/* Whether a step did anything: only then are the record and the sets to send written. */
-static int acted(uint64_t result)
-{
-    return !coldroom_refused(result) && coldroom_value(result) >= COLDROOM_TAKEN;
-}
-
-/* The controller opens a round. One that waits too long for its verdict does so again, with a higher number. */
-static uint64_t open_round(struct controller *c, uint64_t round)
+/* The controller opens a round. One that waits too long for its verdict does so again, with the next number. */
+static uint64_t open_round(struct controller *c)
 {
     uint64_t sends[COLDROOM_SENDS];
-    uint64_t result = coldroom_open(c->nodes, c->me, c->row, COLDROOM_ROW, c->in, c->record, round, sends);
-    if (acted(result))
+    uint64_t result = coldroom_open(c->nodes, c->me, c->row, COLDROOM_ROW, c->in, c->record, next_round(), sends);
+    if (coldroom_acted(result))
         send_all(c, sends);
     return result;
 }
 
 /* A message has arrived at the controller. */
-static uint64_t arrived(struct controller *c, struct message m)
+static uint64_t arrived(struct controller *c, uint64_t message)
 {
     uint64_t sends[COLDROOM_SENDS];
     uint64_t result = coldroom_deliver(c->nodes, c->me, c->row, COLDROOM_ROW, c->in, c->record,
-                                       m.kind, m.from, m.to, m.round, sends);
-    if (acted(result))
+                                       coldroom_message_kind(message), coldroom_message_from(message),
+                                       coldroom_message_to(message), coldroom_message_round(message), sends);
+    if (coldroom_acted(result))
         send_all(c, sends);
     return result;
 }
 
-static const char *words(uint64_t value)
-{
-    switch (value) {
-    case COLDROOM_OLD: return "old";
-    case COLDROOM_STRAY: return "stray";
-    case COLDROOM_REPEAT: return "repeat";
-    case COLDROOM_TAKEN: return "taken";
-    case COLDROOM_TAKEN_DEADLOCKED: return "taken deadlocked";
-    case COLDROOM_TAKEN_NOT_DEADLOCKED: return "taken not-deadlocked";
-    case COLDROOM_OPENED: return "opened";
-    case COLDROOM_OPENED_DEADLOCKED: return "opened deadlocked";
-    case COLDROOM_OPENED_NOT_DEADLOCKED: return "opened not-deadlocked";
-    default: return "unknown";
-    }
-}
-
-/* Says what a step answered, and whether it ended the round. */
+/* Says what a step answered, and whether it ended a round: then the controller's record has the round's number. */
 static int verdict(uint64_t result)
 {
+    uint64_t value = coldroom_value(result);
     if (coldroom_refused(result)) {
-        printf("refused %d row %d\n", (int)coldroom_number(result), (int)coldroom_row(result));
+        printf("refused %d row %d: %s\n", (int)coldroom_number(result), (int)coldroom_row(result),
+               coldroom_words(coldroom_number(result)));
         return 0;
     }
-    printf("%s %u\n", words(coldroom_value(result)), count);
-    return coldroom_value(result) != COLDROOM_OPENED && coldroom_value(result) > COLDROOM_TAKEN;
+    printf("%s %u\n", coldroom_words(value), count);
+    return value == COLDROOM_TAKEN_DEADLOCKED || value == COLDROOM_TAKEN_NOT_DEADLOCKED || value == COLDROOM_OPENED_NOT_DEADLOCKED;
 }
+
+/* Delivers the messages from number `from` to before number `to`, those that are sent meanwhile too, and says whether the newest
+ * round gave its verdict. */
+static int deliver(struct controller rooms[], unsigned from, unsigned to)
+{
+    int ended = 0;
+    for (unsigned k = from; k < to && k < count; k++) {
+        struct controller *receiver = &rooms[coldroom_message_to(sent[k])];
+        if (verdict(arrived(receiver, sent[k])))
+            ended = receiver->record[COLDROOM_ROUND] == stored_counter;
+    }
+    return ended;
+}
+
+enum { NODES = 4, EARLY = 3 };
 
 int main(void)
 {
     static const char *const names[] = {"NOTIFY", "GRANT", "ACK", "DONE"};
-    struct controller rooms[] = {
-        {.nodes = 2, .me = 0, .row = {1, 1, 1 << 1}, .in = 0},
-        {.nodes = 2, .me = 1, .row = {0}, .in = 1 << 0},
+    static const uint64_t rows[NODES * COLDROOM_ROW] = {
+        1, 2, 1 << 1 | 1 << 2 | 1 << 3, 0, 0, 0, /* node 0: two of 1, 2 and 3 */
+        0, 0, 0, 0, 0, 0,                        /* node 1: nobody */
+        1, 1, 1 << 0, 0, 0, 0,                   /* node 2: 0 */
+        1, 1, 1 << 0, 0, 0, 0,                   /* node 3: 0 */
     };
-    int ended = verdict(open_round(&rooms[0], 1));
+    struct controller rooms[NODES];
+    int ended;
+    for (unsigned i = 0; i < NODES; i++) {
+        rooms[i] = (struct controller){.nodes = NODES, .me = i};
+        for (unsigned k = 0; k < COLDROOM_ROW; k++)
+            rooms[i].row[k] = rows[i * COLDROOM_ROW + k];
+        if (coldroom_refused(coldroom_in(NODES, rows, NODES * COLDROOM_ROW, i, &rooms[i].in)))
+            return 2;
+    }
+    /* Node 0 opens a round. Before it has ended node 2 opens one too, and what is still under way of the first comes late. */
+    verdict(open_round(&rooms[0]));
+    deliver(rooms, 0, EARLY);
+    verdict(open_round(&rooms[2]));
+    ended = deliver(rooms, EARLY, MOST);
     for (unsigned k = 0; k < count; k++)
-        ended |= verdict(arrived(&rooms[sent[k].to], sent[k]));
-    for (unsigned k = 0; k < count; k++)
-        printf("message %u %s %d %d %d\n", k, names[sent[k].kind], (int)sent[k].from, (int)sent[k].to, (int)sent[k].round);
+        printf("message %u %s %d %d %d\n", k, names[coldroom_message_kind(sent[k])], (int)coldroom_message_from(sent[k]),
+               (int)coldroom_message_to(sent[k]), (int)coldroom_message_round(sent[k]));
     return ended ? 0 : 1;
 }

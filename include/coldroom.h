@@ -1,8 +1,12 @@
-/* coldroom.h: the deadlock detector for voting claims, for C. Link libcoldroom.a (`rt staticlib coldroom`).
+/* coldroom.h: the deadlock detector for voting claims, for C99 and C++. Link libcoldroom.a (`rt staticlib coldroom`).
  *
- * Each call is proved to do what is said of it here for every input, bad input too: nothing undefined happens, it ends, and a call
- * that is refused leaves all lent memory as it was. There is no heap, no state between calls and no other library. Calls on
- * different memory may run at the same time.
+ * Each call of the library is proved to do what is said of it here for every input, bad input too: nothing undefined happens, it
+ * ends, and a call that is refused leaves all lent memory as it was. There is no heap, no state between calls and no other library.
+ * Calls on different memory may run at the same time. No call needs more than 2,048 bytes of stack on x86-64; a controller's two
+ * calls need 592 and 1,344, and docs/SPEED.md has each.
+ *
+ * The functions that stand here with their code, `static inline`, only save a caller from writing them again: they are plain C, not
+ * proved, and small enough to be read.
  *
  * What a caller must do itself, since C does not say it: a pointer that comes with a length points to that many places (of length
  * 0: any pointer); other pointers point to one place, or to as many as the parameter's brackets say; what a call may write
@@ -59,6 +63,14 @@ enum {
     COLDROOM_SENDS = 4        /* and what a step sends */
 };
 
+/* The places of a record. From the last one on it has four sets: of the nodes whose NOTIFY, GRANT, ACK and DONE were had. */
+enum {
+    COLDROOM_ROUND = 0, /* the round that it is in */
+    COLDROOM_CALL = 1,  /* 0 not called, 1 opened this round itself, k + 2 called by node k */
+    COLDROOM_FREED = 2, /* 0 not free, 1 free by itself, k + 2 freed by node k */
+    COLDROOM_HAD = 3    /* COLDROOM_HAD + COLDROOM_GRANT, say, is the place of the set whose GRANT was had */
+};
+
 /* The kinds of messages, which are also the places of their receivers in `sends`. */
 enum {
     COLDROOM_NOTIFY = 0,
@@ -88,6 +100,68 @@ static inline int coldroom_refused(uint64_t result) { return result >= 1 && resu
 static inline uint64_t coldroom_number(uint64_t result) { return result % 256; }
 static inline uint64_t coldroom_row(uint64_t result) { return result / 256; }
 static inline uint64_t coldroom_value(uint64_t result) { return result - COLDROOM_PLUS; }
+
+/* Of coldroom_open, coldroom_deliver and coldroom_step: whether the step did anything. Only then was anything written. */
+static inline int coldroom_acted(uint64_t result)
+{
+    return !coldroom_refused(result) && coldroom_value(result) >= COLDROOM_TAKEN;
+}
+
+/* A refusal's number, or an answer's value from 100 on, in words. */
+static inline const char *coldroom_words(uint64_t code)
+{
+    switch (code) {
+    case 1: return "no such node count, or not six row numbers a node";
+    case 2: return "no such kind";
+    case 3: return "a set has a member that is no node";
+    case 4: return "a node waits on itself";
+    case 5: return "the threshold isn't as its kind says";
+    case 6: return "a set that its kind doesn't have";
+    case 7: return "no set, or one set inside another";
+    case 8: return "too many edges";
+    case 9: return "no such node";
+    case 10: return "no such round, or one that isn't above those before";
+    case 11: return "no such message yet, or no such kind of step";
+    case 12: return "the new messages don't fit the room";
+    case 13: return "a record, message or bench that can't be";
+    case 14: return "an entry of the list names no node";
+    case 15: return "the lent room is too small";
+    case 18: return "the list isn't strictly ascending";
+    case COLDROOM_OLD: return "old";
+    case COLDROOM_STRAY: return "stray";
+    case COLDROOM_REPEAT: return "repeat";
+    case COLDROOM_TAKEN: return "taken";
+    case COLDROOM_TAKEN_DEADLOCKED: return "taken deadlocked";
+    case COLDROOM_TAKEN_NOT_DEADLOCKED: return "taken not-deadlocked";
+    case COLDROOM_OPENED: return "opened";
+    case COLDROOM_OPENED_DEADLOCKED: return "opened deadlocked";
+    case COLDROOM_OPENED_NOT_DEADLOCKED: return "opened not-deadlocked";
+    default: return "unknown";
+    }
+}
+
+/* A message as one number, as a bench keeps it and as a wire may carry it, and back. A kind, a sender and a receiver are below 256. */
+static inline uint64_t coldroom_message(uint64_t kind, uint64_t from, uint64_t to, uint64_t round)
+{
+    return round << 24 | kind << 16 | from << 8 | to;
+}
+static inline uint64_t coldroom_message_kind(uint64_t message) { return message >> 16 & 255; }
+static inline uint64_t coldroom_message_from(uint64_t message) { return message >> 8 & 255; }
+static inline uint64_t coldroom_message_to(uint64_t message) { return message & 255; }
+static inline uint64_t coldroom_message_round(uint64_t message) { return message >> 24; }
+
+/* Takes the next message out of what a step sends, in the paper's order: NOTIFY, GRANT, ACK, DONE, each by ascending receiver.
+ * 1 with *kind and *to, or 0 when none is left. */
+static inline int coldroom_next_send(uint64_t sends[COLDROOM_SENDS], uint64_t *kind, uint64_t *to)
+{
+    for (*kind = 0; *kind < COLDROOM_SENDS; ++*kind)
+        for (*to = 0; *to < COLDROOM_NODES; ++*to)
+            if (sends[*kind] >> *to & 1) {
+                sends[*kind] &= ~(UINT64_C(1) << *to);
+                return 1;
+            }
+    return 0;
+}
 
 /* ---- A WHOLE GRAPH ---- */
 
@@ -119,15 +193,17 @@ uint64_t coldroom_check_evidence(uint64_t nodes, const uint64_t *rows, uint64_t 
  * Refused by 1 to 8, 9. */
 uint64_t coldroom_ring(uint64_t nodes, const uint64_t *rows, uint64_t rows_length, uint64_t node);
 
+/* IN of a node: everybody who waits on it. Value 0, and *set is written. Refused by 1 to 8, 9; then *set stays. */
+uint64_t coldroom_in(uint64_t nodes, const uint64_t *rows, uint64_t rows_length, uint64_t node, uint64_t *set);
+
 /* ---- ONE CONTROLLER ----
  *
  * A controller knows the node count, its own number `me`, its own `row` of six numbers, and `in`, the set of the nodes that wait
- * on it. It keeps one record, which is seven zeros before the first round:
- *   record[0] round; [1] call: 0 not called, 1 opened this round itself, k + 2 called by node k; [2] freed: 0 not free, 1 free by
- *   itself, k + 2 freed by node k; [3] to [6] the sets of nodes whose NOTIFY, GRANT, ACK and DONE it has had.
- * IN of node j is every node in whose row some set has bit j.
+ * on it, which coldroom_in gives to whoever has all rows. It keeps one record of seven numbers, whose places are named above, all 0
+ * before the first round.
  * When a round is opened or a message is taken, the record is written, and sends[0] to sends[3]: the sets of nodes to which the
- * controller now sends NOTIFY, GRANT, ACK and DONE of the record's round, empty ones as 0. Otherwise neither is written.
+ * controller now sends NOTIFY, GRANT, ACK and DONE of the record's round, empty ones as 0. Otherwise neither is written. A verdict
+ * belongs to the round that the record is in then, record[COLDROOM_ROUND].
  *
  * Refused, in this order: 1 if there are 0 or over 64 nodes or row_length isn't 6; 9 if `me` is no node; 2 to 7 for the row, with
  * `me` as the row of the refusal; 13 if the record, `in` or the message names a node or a kind that doesn't exist or a round above
@@ -135,14 +211,25 @@ uint64_t coldroom_ring(uint64_t nodes, const uint64_t *rows, uint64_t rows_lengt
  *
  * What is promised of all controllers together: whatever is lost, repeated, late or out of order, no round gives a false verdict;
  * and a round after which no other is opened gives the right one once each of its messages has arrived. So an initiator that waits
- * too long opens a higher round. That asks of them that they are told the rows and INs of one graph, whose waits stand still; that
- * each keeps its record from call to call, which no power cut may take from it; that only messages are delivered that were sent; and
- * that each round has a higher number than every round opened before, by whichever controller, as a counter that one of them keeps
- * would see to. A controller sees none of this by itself. After a claim has changed, ask by a round that is opened when everybody
- * concerned has the new row and IN. */
+ * too long opens a higher round. That asks of them, and a controller sees none of it by itself:
+ *   - They are told the rows and INs of one graph, whose waits stand still. After a claim has changed, ask by a round that is opened
+ *     when everybody concerned has the new row and IN.
+ *   - Each keeps its record from call to call, stored before anything that the step sends leaves. A controller that has lost its
+ *     record, as by a power cut, must not go on with a fresh one while the others go on with theirs: it could be called again in a
+ *     round that it has answered in, and the verdict could be false. Either all start afresh together, from records of 0 and with
+ *     every message of before thrown away, or it stays silent.
+ *   - Only messages are delivered that were sent.
+ *   - Each round has a higher number than every round opened before, by whichever controller. */
 
 /* The controller opens a round. Value 120 opened; 122 opened, and the round has ended, not deadlocked, which it does at once at a
- * node that waits for nobody and on which nobody waits, and at no other. */
+ * node that waits for nobody and on which nobody waits, and at no other.
+ *
+ * WHERE THE NUMBER COMES FROM. Not from the record: "my record's round plus one" gives false verdicts as soon as two controllers open
+ * rounds. Say that 1 waits on 0, that 0 waits for nobody, and that both open round 1. 0 sends GRANT to 1; 1 sends NOTIFY to 0, and 0,
+ * which has opened that round itself, answers DONE at once. If DONE comes before GRANT, 1 says "deadlocked", and it isn't. No call is
+ * refused: 10 is given by the record of this controller, which can't see what another has opened. With one initiator alone the
+ * record would do. With more, one of them keeps a counter for all: it adds one, stores the sum, and only then hands it out, to itself
+ * too; every round takes the next number, and a number whose round was never opened is just skipped. examples/controller.c does it so. */
 uint64_t coldroom_open(uint64_t nodes, uint64_t me, const uint64_t *row, uint64_t row_length, uint64_t in,
                        uint64_t record[COLDROOM_RECORD], uint64_t round, uint64_t sends[COLDROOM_SENDS]);
 

@@ -1,17 +1,22 @@
 /* Makes the calls of libcoldroom.a that standard input asks for, so that another program can hold them against its own.
  *
- * A line is a call: its number, 0 to 9 as in `takes` below, then what it takes, in the order of coldroom.h: a number; a
+ * A line is a call: its number, 0 to 10 as in `takes` below, then what it takes, in the order of coldroom.h: a number; a
  * slice as its length and its content; a single place, a record or the sends by their content alone. The line written
  * for it is the result, and then the content of all lent places in the same order. Damage to anything else is said at
- * the end of the line. All numbers are decimal. */
+ * the end of the line. All numbers are decimal.
+ *
+ * What a call is lent lies between two pages that nobody may touch: in turn from line to line it begins where the one ends or ends
+ * where the other begins, so that a read outside stops the program too. */
+#define _DEFAULT_SOURCE
 #include "coldroom.h"
 
 #include <signal.h>
 #include <stdio.h>
 #include <stdlib.h>
 #include <string.h>
+#include <sys/mman.h>
 
-enum { MOST_TAKEN = 10, LONGEST = 1 << 20, GUARD = 64, PATTERN = 0xA5, BUFFER = 1 << 16 };
+enum { MOST_TAKEN = 10, LONGEST = 1 << 20, GUARD = 64, PATTERN = 0xA5, BUFFER = 1 << 16, PAGE = 1 << 16 };
 
 /* What each call takes: n a number; r a slice of numbers and b one of bytes, only read; R and B the same, lent; 1, 4 and 7
  * so many lent places. */
@@ -26,16 +31,21 @@ static const char *const takes[] = {
     "nnrn7nnnn4", /* 7 deliver: nodes, me, row, in, record, kind, from, to, round, sends */
     "nrRR11nnn",  /* 8 step: nodes, rows, records, messages, sent, highest, kind, a, b */
     "nrRR11rR",   /* 9 run: nodes, rows, records, messages, sent, highest, steps, answers */
+    "nrn1",       /* 10 in: nodes, rows, node, set */
 };
 
 /* One thing that a call takes. */
 struct taken {
     uint64_t number; /* the number, or how many there are in the slice */
     size_t size;     /* of one of them */
-    void *place;     /* where they lie, between two guards */
+    void *place;     /* where they lie: at one end of its arena, */
+    uint8_t *beside; /* with so many bytes of a pattern at its other side; NULL of what isn't lent or read */
     void *before;    /* a copy of what must not change, or NULL */
-    unsigned char *block;
 };
+
+/* The memory between two pages that nobody may touch, one for each thing that a call takes. */
+enum { ARENA = 8 * LONGEST + PAGE };
+static uint8_t *arenas[MOST_TAKEN];
 
 static unsigned char input[BUFFER], output[BUFFER];
 static size_t input_at, input_end, output_end;
@@ -139,9 +149,17 @@ static void read_content(struct taken *taken)
     }
 }
 
-/* Puts the content between two guards. An empty slice may have any pointer: it gets NULL, or another that nothing can be read
+static uint8_t *arena(void)
+{
+    uint8_t *all = mmap(NULL, ARENA + 2 * PAGE, PROT_READ | PROT_WRITE, MAP_PRIVATE | MAP_ANONYMOUS, -1, 0);
+    if (all == MAP_FAILED || mprotect(all, PAGE, PROT_NONE) != 0 || mprotect(all + PAGE + ARENA, PAGE, PROT_NONE) != 0)
+        stop("no memory is left");
+    return all + PAGE;
+}
+
+/* Puts the content at one end of an arena. An empty slice may have any pointer: it gets NULL, or another that nothing can be read
  * from, in turn from line to line. */
-static void read_slice(struct taken *taken, size_t size, int only_read)
+static void read_slice(struct taken *taken, uint8_t *arena, size_t size, int only_read)
 {
     size_t whole = (size_t)taken->number * size;
     taken->size = size;
@@ -149,9 +167,9 @@ static void read_slice(struct taken *taken, size_t size, int only_read)
         taken->place = line % 2 ? NULL : (void *)8;
         return;
     }
-    taken->block = memory(whole + 2 * GUARD);
-    memset(taken->block, PATTERN, whole + 2 * GUARD);
-    taken->place = taken->block + GUARD;
+    taken->place = line % 2 ? arena : arena + ARENA - whole;
+    taken->beside = line % 2 ? arena + whole : arena + ARENA - whole - GUARD;
+    memset(taken->beside, PATTERN, GUARD);
     read_content(taken);
     if (only_read) {
         taken->before = memory(whole);
@@ -159,12 +177,12 @@ static void read_slice(struct taken *taken, size_t size, int only_read)
     }
 }
 
-static void read_taken(struct taken *taken, char kind)
+static void read_taken(struct taken *taken, uint8_t *arena, char kind)
 {
     memset(taken, 0, sizeof *taken);
     if (kind >= '1' && kind <= '7') {
         taken->number = (uint64_t)(kind - '0');
-        read_slice(taken, 8, 0);
+        read_slice(taken, arena, 8, 0);
         return;
     }
     taken->number = read_number();
@@ -172,7 +190,7 @@ static void read_taken(struct taken *taken, char kind)
         return;
     if (taken->number > LONGEST)
         stop("a slice is too long");
-    read_slice(taken, kind == 'b' || kind == 'B' ? 1 : 8, kind == 'r' || kind == 'b');
+    read_slice(taken, arena, kind == 'b' || kind == 'B' ? 1 : 8, kind == 'r' || kind == 'b');
 }
 
 /* A taken number, a slice as its two arguments, and lent places. */
@@ -201,14 +219,16 @@ static uint64_t make_call(uint64_t call, const struct taken *t)
         return coldroom_deliver(N(0), N(1), SLICE(2), N(3), LENT(4), N(5), N(6), N(7), N(8), LENT(9));
     case 8:
         return coldroom_step(N(0), SLICE(1), SLICE(2), SLICE(3), LENT(4), LENT(5), N(6), N(7), N(8));
-    default:
+    case 9:
         return coldroom_run(N(0), SLICE(1), SLICE(2), SLICE(3), LENT(4), LENT(5), SLICE(6), SLICE(7));
+    default:
+        return coldroom_in(N(0), SLICE(1), N(2), LENT(3));
     }
 }
 
 static void write_lent(const struct taken *taken)
 {
-    if (!taken->block || taken->before)
+    if (!taken->beside || taken->before)
         return;
     for (size_t index = 0; index < taken->number; index++) {
         write_byte(' ');
@@ -220,10 +240,10 @@ static void write_lent(const struct taken *taken)
 static void settle(struct taken *taken)
 {
     size_t whole = (size_t)taken->number * taken->size;
-    if (!taken->block)
+    if (!taken->beside)
         return;
     for (size_t at = 0; at < GUARD; at++) {
-        if (taken->block[at] != PATTERN || taken->block[GUARD + whole + at] != PATTERN) {
+        if (taken->beside[at] != PATTERN) {
             write_text(" written-outside");
             break;
         }
@@ -231,7 +251,6 @@ static void settle(struct taken *taken)
     if (taken->before && memcmp(taken->before, taken->place, whole) != 0)
         write_text(" written-where-only-read");
     free(taken->before);
-    free(taken->block);
 }
 
 static void serve_line(void)
@@ -242,7 +261,7 @@ static void serve_line(void)
         stop("there is no such call");
     size_t count = strlen(takes[call]);
     for (size_t k = 0; k < count; k++)
-        read_taken(&taken[k], takes[call][k]);
+        read_taken(&taken[k], arenas[k], takes[call][k]);
     if (peek() != '\n')
         stop("the line should end here");
     write_number(make_call(call, taken));
@@ -260,6 +279,8 @@ int main(void)
     static const int deadly[] = {SIGSEGV, SIGBUS, SIGILL, SIGFPE, SIGTRAP, SIGABRT};
     for (size_t k = 0; k < sizeof deadly / sizeof *deadly; k++)
         signal(deadly[k], crashed);
+    for (size_t k = 0; k < MOST_TAKEN; k++)
+        arenas[k] = arena();
     while (peek() != EOF)
         serve_line();
     flush();

@@ -140,6 +140,7 @@ CALL(all_deadlocked, nodes, rows, rows_len, &set)
 CALL(write_evidence, nodes, rows, rows_len, node, room, room_len)
 CALL(check_evidence, nodes, rows, rows_len, node, list, list_len)
 CALL(ring, nodes, rows, rows_len, node)
+CALL(in, nodes, rows, rows_len, node, &set)
 CALL(open, nodes, node, rows, rows_len, ins, record, b, sends)
 CALL(deliver, nodes, node, rows, rows_len, ins, record, kind, a, node, b, sends)
 CALL(step, nodes, rows, rows_len, records, records_len, messages, places, &sent, &highest, kind, a, b)
@@ -203,6 +204,7 @@ int main(void)
         {"coldroom_write_evidence", call_write_evidence, of_a_graph},
         {"coldroom_check_evidence", call_check_evidence, of_a_graph},
         {"coldroom_ring", call_ring, of_a_graph},
+        {"coldroom_in", call_in, of_a_graph},
         {"coldroom_open", call_open, of_a_controller},
         {"coldroom_deliver", call_deliver, of_a_controller},
         {"coldroom_step", call_step, of_a_bench},
