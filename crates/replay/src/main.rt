@@ -1,12 +1,36 @@
-// Reads a script from standard input, takes its steps, and writes what came of them to standard output.
+// Reads a script from standard input, takes its steps, and writes what came of them to standard output; and to standard error why it is
+// no script, if it is none.
+use snags::snag_room;
+use snags::snags;
+use streams::Input;
+use streams::read_all;
+use streams::write_all;
 use transcript::script_room;
 use transcript::text_room;
 use transcript::transcript;
 
+fn explain(script: &[u8]) {
+    let mut words = snag_room();
+    let said = snags(script, &mut words);
+    write_all(2, &words[..said]);
+}
+
+fn answer(script: &[u8]) {
+    let mut text = text_room();
+    let end = transcript(script, &mut text);
+    if !write_all(1, &text[..end]) {
+        os::fail(b"replay: the answer can't be written");
+        return;
+    }
+    explain(script);
+}
+
 fn main() {
     let mut script = script_room();
-    let mut room = text_room();
-    let length = io::read_full(0, &mut script);
-    let end = transcript(&script[..length], &mut room);
-    io::write_all(1, &room[..end]);
+    let input = read_all(0, &mut script);
+    let Input::Bytes(length) = input else {
+        os::fail(b"replay: standard input can't be read");
+        return;
+    };
+    answer(&script[..length]);
 }

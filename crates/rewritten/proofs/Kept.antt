@@ -15,7 +15,7 @@ use Rattle.format.specs.Files.Said.{Graph}
 use Rattle.format.specs.Written.{fileOf, Plain}
 use Rattle.format.proofs.Back.{undone}
 use Rattle.writer.proofs.Lengths.{file-short}
-use Rattle.report.specs.Report.{longest, Input, inputOf}
+use Rattle.report.specs.Report.{longest, inputOf}
 use Rattle.report.specs.Report.Input.{TooLong, Says}
 use Rattle.report.proofs.Settle.{read-accepted}
 use Rattle.rewritten.specs.Rewritten.{writtenBack, rewrittenOf}

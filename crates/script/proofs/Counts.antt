@@ -1,16 +1,19 @@
--- What a count of the numbers read tells. Assumes nothing.
-use mathlib.Core.Path.{_≡_, refl, sym, _∙_}
+-- What a count of the numbers read tells, and where they stand. Assumes nothing.
+use mathlib.Core.Path.{_≡_, refl, sym, ap, _∙_}
 use mathlib.Core.Bool.{true, false, _&&_}
+use mathlib.Core.List.{List}
 use mathlib.Core.Logic.{_⊎_, inl, inr, ⊎-elim}
 use Prim.Native.Nat.{ℕ, _≤_, _<_}
 use native.Mathlib.Omega.{arith}
 use lib.Dec.{leb}
-use lib.ListN.{length}
+use lib.ListN.{length, take}
+use lib.Seq.{sets, length-sets}
 use borrow.Author.Tests.{leb-true, leb-false}
 use Rattle.lemmas.proofs.Cases.{at-true, at-false}
+use Rattle.lemmas.proofs.Stores.{front-taken}
 use Rattle.lemmas.proofs.Tests.{and-intro, and-left, and-right, true-or-false}
 use Rattle.script.specs.declared.numbers.Count.the-variants.{Bad, Read}
-use Rattle.script.specs.Numbers.{Said, countOf}
+use Rattle.script.specs.Numbers.{Said, numbersOf, countOf}
 
 -- ---- back from a count
 not-bad : {count : ℕ} → Read count ≡ Bad → ⊥
@@ -49,3 +52,17 @@ read-count places s {count} e =
     })
     (λ (t : (s .good && small) ≡ false). absurd (not-bad (e ∙ sym (at-false (Read (length (s .numbers))) t refl))))
     (true-or-false (s .good && small))
+
+-- ---- the numbers that were read stand in front
+module _ (bytes found left : List ℕ) (stored : left ≡ sets found 0 (numbersOf bytes .numbers)) {count : ℕ} (e : Read count ≡ countOf (length found) (numbersOf bytes)) where
+  counted : Counted (length found) (numbersOf bytes) count
+  counted = read-count (length found) (numbersOf bytes) e
+
+  pub read-good : numbersOf bytes .good ≡ true
+  read-good = counted .good
+
+  pub read-inside : count ≤ length left
+  read-inside = omega (arith, counted .all, counted .enough, ap length stored, length-sets found 0 (numbersOf bytes .numbers))
+
+  pub read-front : take count left ≡ numbersOf bytes .numbers
+  read-front = ap (take count) stored ∙ front-taken found (numbersOf bytes .numbers) (counted .all) (counted .enough)

@@ -1,5 +1,6 @@
--- Reading numbers, from what each byte does; steps in a list; a script's numbers, and its bytes; what the promises settle.
+-- Reading numbers, from what each byte does; where that stops; steps in a list; a script's numbers, and its bytes; what the promises settle.
 pub mod Reading
+pub mod Stopping
 pub mod Counts
 pub mod Triples
 pub mod Shapes

@@ -7,10 +7,9 @@ use Prim.Native.Nat.{ℕ, _≤_, _<_}
 use native.Mathlib.Omega.{arith}
 use lib.Dec.{leb}
 use lib.ListN.{length, take}
-use lib.Seq.{sets, length-sets}
+use lib.Seq.{sets}
 use borrow.Author.Tests.{le-leb, lt-leb}
 use Rattle.lemmas.proofs.Cases.{at-true, at-false, both-branches}
-use Rattle.lemmas.proofs.Stores.{front-taken}
 use Rattle.lemmas.proofs.Tests.{and-intro, and-first, and-later}
 use Rattle.script.specs.declared.numbers.Count.the-variants.{Bad, Read}
 use Rattle.script.specs.declared.script.Parsed.{Parsed}
@@ -18,7 +17,7 @@ use Rattle.script.specs.declared.script.Parsed.the-variants.{NoScript as
 use Rattle.script.specs.Numbers.{numbersOf, countOf}
 use Rattle.script.specs.Script.{mostNumbers, longest, Meant, scriptOf, meantBy, numbersRead, shapeOf, stepsIn, CodeSays, ParseSays}
 use Rattle.script.specs.Script.Meant.{NoScript}
-use Rattle.script.proofs.Counts.{Counted, bad-count, read-count}
+use Rattle.script.proofs.Counts.{bad-count, read-good, read-front}
 use Rattle.script.proofs.Shapes.{most-numbers}
 
 module _ (bytes : List ℕ) where
@@ -76,17 +75,10 @@ module _ (bytes : List ℕ) where
           was-read
 
       module _ {count : ℕ} (e : Read count ≡ countOf (length numbers) (numbersOf bytes)) where
-        counted : Counted (length numbers) (numbersOf bytes) count
-        counted = read-count (length numbers) (numbersOf bytes) e
-
-        pub parse-count : count ≤ length numbers′
-        parse-count = omega (arith, counted .all, counted .enough, ap length r, length-sets numbers 0 (numbersOf bytes .numbers))
-
-        taken : take count numbers′ ≡ numbersOf bytes .numbers
-        taken = ap (take count) r ∙ front-taken numbers (numbersOf bytes .numbers) (counted .all) (counted .enough)
-
         meant : scriptOf (take count numbers′) ≡ meantBy bytes
-        meant = ap scriptOf taken ∙ sym (meant-script (and-intro (leb (length bytes) longest) (numbersOf bytes .good) short (counted .good)))
+        meant =
+            ap scriptOf (read-front bytes numbers numbers′ r e)
+            ∙ sym (meant-script (and-intro (leb (length bytes) longest) (numbersOf bytes .good) short (read-good bytes numbers numbers′ r e)))
 
         pub parse-all : {steps′ : List ℕ} {a : Parsed} → CodeSays (take count numbers′) steps steps′ a → ParseSays bytes numbers steps numbers′ steps′ a
         parse-all p = record {

@@ -26,7 +26,7 @@ module _ (kind a b : ℕ) where
       )
 
 -- ---- the next step of a list, and the end
-drop-three : (l : List ℕ) (at : ℕ) → at + 2 < length l
+pub drop-three : (l : List ℕ) (at : ℕ) → at + 2 < length l
     → drop at l ≡ getD l at 0 ∷ getD l (at + 1) 0 ∷ getD l (at + 2) 0 ∷ drop (at + 3) l
 drop-three l at h =
     rw (add-one at, add-two at, add-three at)

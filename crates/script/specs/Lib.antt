@@ -1,4 +1,5 @@
--- What a text of numbers says, what a step is, and what a script is.
+-- What a text of numbers says and where it stops, what a step is, and what a script is.
 pub mod Numbers
+pub mod Stops
 pub mod Steps
 pub mod Script

@@ -2,6 +2,7 @@
 mod numbers;
 mod script;
 mod steps;
+mod stops;
 
 pub use numbers::Count;
 pub use numbers::read;
@@ -11,3 +12,5 @@ pub use script::Parsed;
 pub use script::STEPS;
 pub use script::Shape;
 pub use script::parse;
+pub use stops::Stop;
+pub use stops::stop_of;

@@ -16,7 +16,7 @@ pub enum Count {
     Read(usize),
 }
 
-fn blank(b: u8) -> bool
+pub fn blank(b: u8) -> bool
     ensures { λ r. ⌜ r ≡ blank-of b ⌝ }
 {
     if b == b' ' {
@@ -31,7 +31,7 @@ fn blank(b: u8) -> bool
     b == b'\r'
 }
 
-fn so_far(p: Place) -> u64
+pub fn so_far(p: Place) -> u64
     ensures { λ r. ⌜ r ≡ soFar p ⌝ }
 {
     match p {

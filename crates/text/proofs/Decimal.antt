@@ -61,3 +61,7 @@ decimal-two = one-more 10 1 (λ m h. omega (arith, ap length (decimal-small m h)
 -- below 100,000 at most five
 pub decimal-five : (n : ℕ) → n < 100000 → length (decimal n) ≤ 5
 decimal-five = one-more 10000 4 (one-more 1000 3 (one-more 100 2 decimal-two))
+
+-- below 10,000,000 at most seven
+pub decimal-seven : (n : ℕ) → n < 10000000 → length (decimal n) ≤ 7
+decimal-seven = one-more 1000000 6 (one-more 100000 5 decimal-five)

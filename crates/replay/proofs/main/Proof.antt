@@ -1,60 +1,60 @@
 -- `main` meets its contract. Assumes nothing.
 use mathlib.Core.Path.{sym}
 use lib.Seq.{length-take-le}
+use Rattle.streams.proofs.Within.{read-at-most}
 use borrow.Author.Needs.{needs}
-use Rattle.text.proofs.Writing.{written-end}
 use Rattle.replay.proofs.main.Statement.{statement}
 use Rattle.replay.proofs.main.Tie as tie
 
 script-room-requires : tie.Need-script-room-requires
 script-room-requires c κs = search needs
 
-text-room-requires : tie.Need-text-room-requires
-text-room-requires c κs = search needs
+slice-aggregate-read-all : tie.Need-slice-aggregate-read-all
+slice-aggregate-read-all c = search needs
 
-slice-aggregate-read-full : tie.Need-slice-aggregate-read-full
-slice-aggregate-read-full c = search needs
+read-all-requires : tie.Need-read-all-requires
+read-all-requires c κs = search needs
 
-read-full-requires : tie.Need-read-full-requires
-read-full-requires c κs = search needs
+enum-known-input : tie.Need-enum-known-input
+enum-known-input c = search needs
 
-array-share-prefix-script : tie.Need-array-share-prefix-script
-array-share-prefix-script c = search needs
+enum-told : tie.Need-enum-told
+enum-told c = search needs
 
-slice-aggregate-transcript : tie.Need-slice-aggregate-transcript
-slice-aggregate-transcript c = search needs
+slice-aggregate-fail : tie.Need-slice-aggregate-fail
+slice-aggregate-fail c = search needs
 
-slice-aggregate-transcript-2 : tie.Need-slice-aggregate-transcript-2
-slice-aggregate-transcript-2 c = search needs
-
-transcript-requires : tie.Need-transcript-requires
-transcript-requires c κs = search needs
-
-array-share-prefix-room : tie.Need-array-share-prefix-room
-array-share-prefix-room c = written-end _ _ (c .before .transcript .ensures)
-
-slice-aggregate-write-all : tie.Need-slice-aggregate-write-all
-slice-aggregate-write-all c = sym (length-take-le _ _ (written-end _ _ (c .before .before .transcript .ensures)))
-
-write-all-requires : tie.Need-write-all-requires
-write-all-requires c κs = search needs
+fail-requires : tie.Need-fail-requires
+fail-requires c κs = search needs
 
 returns : tie.Need-returns
 returns c = search needs
+
+array-share-prefix-script : tie.Need-array-share-prefix-script
+array-share-prefix-script c = read-at-most _ _ _ (c .before .input .given .1) (c .before .before .before .before .read-all .ensures)
+
+slice-aggregate-answer : tie.Need-slice-aggregate-answer
+slice-aggregate-answer c = sym (length-take-le _ _ (read-at-most _ _ _ (c .before .before .input .given .1) (c .before .before .before .before .before .read-all .ensures)))
+
+answer-requires : tie.Need-answer-requires
+answer-requires c κs = search needs
+
+returns-2 : tie.Need-returns-2
+returns-2 c = search needs
 
 pub main-spec : {M : Type 1} → statement M
 main-spec =
     tie.close
     (tie.spec
     script-room-requires
-    text-room-requires
-    slice-aggregate-read-full
-    read-full-requires
+    slice-aggregate-read-all
+    read-all-requires
+    enum-known-input
+    enum-told
+    slice-aggregate-fail
+    fail-requires
+    returns
     array-share-prefix-script
-    slice-aggregate-transcript
-    slice-aggregate-transcript-2
-    transcript-requires
-    array-share-prefix-room
-    slice-aggregate-write-all
-    write-all-requires
-    returns)
+    slice-aggregate-answer
+    answer-requires
+    returns-2)

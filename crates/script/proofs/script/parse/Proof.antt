@@ -2,7 +2,8 @@
 use mathlib.Core.Path.{sym, _∙_}
 use lib.Seq.{length-take-le}
 use borrow.Author.Needs.{needs}
-use Rattle.script.proofs.Parsing.{parse-long, parse-bad, parse-count, parse-all}
+use Rattle.script.proofs.Counts.{read-inside}
+use Rattle.script.proofs.Parsing.{parse-long, parse-bad, parse-all}
 use Rattle.script.proofs.script.parse.Statement.{statement}
 use Rattle.script.proofs.script.parse.Tie as tie
 
@@ -25,10 +26,10 @@ returns-2 : tie.Need-returns-2
 returns-2 c = parse-bad _ _ _ (c .before .before .before .before .before .before .if1 .left) (c .before .before .before .before .read .ensures .stored) (c .before .before .before .before .before .before .before .before .before .before .pre .0) (sym (c .enum-told .given .1) ∙ (c .before .before .before .before .read .ensures .counted))
 
 slice-reshare-prefix-code : tie.Need-slice-reshare-prefix-code
-slice-reshare-prefix-code c = parse-count _ _ ((c .before .before .before .before .before .before .before .before .before .before .before .args .steps) .now) (c .before .before .before .before .before .before .before .if1 .left) (c .before .before .before .before .before .read .ensures .stored) (sym (c .before .read2 .given .1) ∙ (c .before .before .before .before .before .read .ensures .counted))
+slice-reshare-prefix-code c = read-inside _ _ _ (c .before .before .before .before .before .read .ensures .stored) (sym (c .before .read2 .given .1) ∙ (c .before .before .before .before .before .read .ensures .counted))
 
 slice-aggregate-code : tie.Need-slice-aggregate-code
-slice-aggregate-code c = sym (length-take-le _ _ (parse-count _ _ ((c .before .before .before .before .before .before .before .before .before .before .before .before .args .steps) .now) (c .before .before .before .before .before .before .before .before .if1 .left) (c .before .before .before .before .before .before .read .ensures .stored) (sym (c .before .before .read2 .given .1) ∙ (c .before .before .before .before .before .before .read .ensures .counted))))
+slice-aggregate-code c = sym (length-take-le _ _ (read-inside _ _ _ (c .before .before .before .before .before .before .read .ensures .stored) (sym (c .before .before .read2 .given .1) ∙ (c .before .before .before .before .before .before .read .ensures .counted))))
 
 code-requires : tie.Need-code-requires
 code-requires c κs = search needs

@@ -1,0 +1,40 @@
+-- `explain` meets its contract. Assumes nothing.
+use mathlib.Core.Path.{sym}
+use lib.Seq.{length-take-le}
+use Rattle.text.proofs.Writing.{written-end}
+use borrow.Author.Needs.{needs}
+use Rattle.replay.proofs.explain.Statement.{statement}
+use Rattle.replay.proofs.explain.Tie as tie
+
+snag-room-requires : tie.Need-snag-room-requires
+snag-room-requires c κs = search needs
+
+slice-aggregate-snags : tie.Need-slice-aggregate-snags
+slice-aggregate-snags c = search needs
+
+snags-requires : tie.Need-snags-requires
+snags-requires c κs = search needs
+
+array-share-prefix-words : tie.Need-array-share-prefix-words
+array-share-prefix-words c = written-end _ _ (c .before .snags .ensures)
+
+slice-aggregate-write-all : tie.Need-slice-aggregate-write-all
+slice-aggregate-write-all c = sym (length-take-le _ _ (written-end _ _ (c .before .before .snags .ensures)))
+
+write-all-requires : tie.Need-write-all-requires
+write-all-requires c κs = search needs
+
+returns : tie.Need-returns
+returns c = search needs
+
+pub explain-spec : {M : Type 1} → statement M
+explain-spec =
+    tie.close
+    (tie.spec
+    snag-room-requires
+    slice-aggregate-snags
+    snags-requires
+    array-share-prefix-words
+    slice-aggregate-write-all
+    write-all-requires
+    returns)

@@ -1,0 +1,113 @@
+// The first thing, in reading order, that keeps bytes from being a script.
+ghost use mathlib.Core.Path.{_≡_};
+ghost use Rattle.snags.specs.Snags.{stepSnag, numbersSnag, snagOf};
+use script::BYTES;
+use script::Count;
+use script::NUMBERS;
+use script::Stop;
+use script::read;
+use script::stop_of;
+
+// At most this many row numbers, this much room and this many steps.
+const MOST: u64 = 8192;
+
+// A step's kind is at most KIND, and its other two numbers are at most PART.
+const KIND: u64 = 65535;
+
+const PART: u64 = 16777215;
+
+// Nothing; more bytes than a script may have; on a line something that is no part of a number, or a number past 64 bits; more numbers
+// than any script has; so many numbers where at least so many are wanted; a count that is too large; so many numbers where so many
+// are wanted; a step whose kind, first or second number is too large.
+pub enum Snag {
+    Nothing,
+    Long,
+    Odd(usize),
+    Large(usize),
+    Crowd,
+    Few(usize, usize),
+    ManyRows,
+    WideRoom,
+    ManySteps,
+    Uneven(usize, usize),
+    Kind(usize),
+    First(usize),
+    Second(usize),
+}
+
+// The first step that is too large.
+fn step_snag(list: &[u64]) -> Snag
+    ensures { λ r. ⌜ r ≡ stepSnag 0 (now (list .entry)) ⌝ }
+{
+    let mut at: usize = 0;
+    let mut j: usize = 0;
+    while at + 2 < list.len() {
+        if KIND < list[at] {
+            return Snag::Kind(j);
+        }
+        if PART < list[at + 1] {
+            return Snag::First(j);
+        }
+        if PART < list[at + 2] {
+            return Snag::Second(j);
+        }
+        at += 3;
+        j += 1;
+    }
+    Snag::Nothing
+}
+
+// What is wrong with the numbers: two in front of the rows, two behind them, and then the steps.
+fn numbers_snag(numbers: &[u64]) -> Snag
+    ensures { λ r. ⌜ r ≡ numbersSnag (now (numbers .entry)) ⌝ }
+{
+    let there = numbers.len();
+    if NUMBERS < there {
+        return Snag::Crowd;
+    }
+    if there < 4 {
+        return Snag::Few(there, 4);
+    }
+    let rows = numbers[1];
+    if MOST < rows {
+        return Snag::ManyRows;
+    }
+    let front = rows as usize + 4;
+    if there < front {
+        return Snag::Few(there, front);
+    }
+    if MOST < numbers[front - 2] {
+        return Snag::WideRoom;
+    }
+    let steps = numbers[front - 1];
+    if MOST < steps {
+        return Snag::ManySteps;
+    }
+    let wanted = front + 3 * steps as usize;
+    if there != wanted {
+        return Snag::Uneven(there, wanted);
+    }
+    step_snag(&numbers[front..])
+}
+
+// What is wrong with the bytes.
+pub fn snag_in(script: &[u8]) -> Snag
+    ensures { λ r. ⌜ r ≡ snagOf (now (script .entry)) ⌝ }
+{
+    if BYTES < script.len() {
+        return Snag::Long;
+    }
+    let stop = stop_of(script);
+    match stop {
+        Stop::Odd(line) => Snag::Odd(line),
+        Stop::Large(line) => Snag::Large(line),
+        Stop::End => {
+            let mut numbers = [0u64; NUMBERS];
+            let read = read(script, &mut numbers);
+            let Count::Read(count) = read else {
+                return Snag::Crowd;
+            };
+            numbers_snag(&numbers[..count])
+        }
+    }
+}
