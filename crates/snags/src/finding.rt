@@ -16,20 +16,25 @@ const KIND: u64 = 65535;
 
 const PART: u64 = 16777215;
 
-// Nothing; more bytes than a script may have; on a line something that is no part of a number, or a number past 64 bits; more numbers
-// than any script has; so many numbers where at least so many are wanted; a count that is too large; so many numbers where so many
-// are wanted; a step whose kind, first or second number is too large.
 pub enum Snag {
     Nothing,
+    // More bytes than a script may have.
     Long,
+    // On this line a byte that is neither a digit nor a blank.
     Odd(usize),
+    // On this line a number past 64 bits.
     Large(usize),
+    // More numbers than any script has.
     Crowd,
+    // So many numbers, where at least so many are wanted.
     Few(usize, usize),
+    // A count above the most.
     ManyRows,
     WideRoom,
     ManySteps,
+    // So many numbers, where so many are wanted.
     Uneven(usize, usize),
+    // The step whose kind, a or b is too large.
     Kind(usize),
     First(usize),
     Second(usize),

@@ -56,6 +56,7 @@ pub mod prng;
 pub mod questions;
 pub mod random;
 pub mod reduction;
+pub mod refusal_words;
 pub mod refused_graphs;
 pub mod replay;
 pub mod rewrite;

@@ -32,9 +32,12 @@ fn main() -> ExitCode {
 
 fn obey(words: &[&str]) -> io::Result<ExitCode> {
     match words {
-        ["replay"] => say(&replay::replay(&input()?)),
-        ["claims"] => answer(said::CLAIMS, Outcome::to_string),
-        ["rewrite"] => answer(said::REWRITE, rewrite::text),
+        ["replay"] => {
+            let outcome = replay::replay(&input()?);
+            answer(&outcome.to_string(), &outcome.errors())
+        }
+        ["claims"] => of_a_file(said::CLAIMS, Outcome::to_string),
+        ["rewrite"] => of_a_file(said::REWRITE, rewrite::text),
         ["mornings"] => say(&mornings::text()),
         ["vectors", folder, name, arguments @ ..] => {
             vectors::SCRIPTS.check(folder, &Program { name, arguments })
@@ -82,12 +85,16 @@ fn try_out(trial: &str, seed: u64, count: u64, program: Program) -> io::Result<E
     }
 }
 
-/// What is said of the file on standard input.
-fn answer(speaker: Speaker, text: fn(&Outcome) -> String) -> io::Result<ExitCode> {
+/// What is said of the file of waits on standard input.
+fn of_a_file(speaker: Speaker, text: fn(&Outcome) -> String) -> io::Result<ExitCode> {
     let file = input()?;
     let outcome = claims::judge(&file);
-    io::stderr().write_all(speaker.words(&outcome, &file).as_bytes())?;
-    say(&text(&outcome))
+    answer(&text(&outcome), &speaker.words(&outcome, &file))
+}
+
+fn answer(text: &str, errors: &str) -> io::Result<ExitCode> {
+    io::stderr().write_all(errors.as_bytes())?;
+    say(text)
 }
 
 fn input() -> io::Result<Vec<u8>> {

@@ -197,7 +197,7 @@ fn about_run(label: &str, rows: Rows, steps: &[Step]) -> String {
         room: 16,
         steps: steps.to_vec(),
     };
-    let lines = replay::replay(script.text().as_bytes());
+    let lines = replay::replay(script.text().as_bytes()).to_string();
     format!("{label}\n{}", lines.trim_end())
 }
 

@@ -47,7 +47,9 @@ impl Trial<'_> {
         let output = self.program.run(&input)?;
         let fault = match laws.broken(&outcome) {
             Some(law) => Some(format!("our own run breaks a law: {law}")),
-            None => output.fault(expected.as_bytes()),
+            None => output
+                .fault(expected.as_bytes())
+                .or_else(|| outcome.fault_in_errors(&output.errors)),
         };
         Ok(fault.map(|fault| {
             let (script, got) = (readable(&input), readable(&output.bytes));

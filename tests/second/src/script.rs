@@ -3,6 +3,7 @@
 use crate::bench::Step;
 use crate::decimal::number;
 use crate::graph::{Rows, NUMBERS_A_ROW};
+use crate::refusal_words::Place;
 
 pub const MOST_BYTES: usize = 1_048_576;
 pub const MOST_IN_A_LIST: u64 = 8_192;
@@ -16,32 +17,36 @@ pub struct Script {
     pub steps: Vec<Step>,
 }
 
+/// The input is no script, because of this line or step, or of none.
+pub struct NoScript(pub Place);
+
+impl NoScript {
+    fn nowhere() -> NoScript {
+        NoScript(Place::new())
+    }
+}
+
 impl Script {
-    /// None where the input is no script.
-    pub fn read(input: &[u8]) -> Option<Script> {
+    pub fn read(input: &[u8]) -> Result<Script, NoScript> {
         if input.len() > MOST_BYTES {
-            return None;
+            return Err(NoScript::nowhere());
         }
         let mut rest = numbers(input)?.into_iter();
-        let mut next = |most: u64| rest.next().filter(|number| *number <= most);
+        let mut next = |most: u64| {
+            let number = rest.next().filter(|number| *number <= most);
+            number.ok_or_else(NoScript::nowhere)
+        };
         let nodes = next(u64::MAX)?;
         let row_numbers = next(MOST_IN_A_LIST)?;
-        let numbers: Option<_> = (0..row_numbers).map(|_| next(u64::MAX)).collect();
+        let numbers: Result<_, _> = (0..row_numbers).map(|_| next(u64::MAX)).collect();
         let rows = Rows {
             nodes,
             numbers: numbers?,
         };
         let room = next(MOST_IN_A_LIST)?;
-        let mut steps = Vec::new();
-        for _ in 0..next(MOST_IN_A_LIST)? {
-            steps.push([
-                next(LARGEST_STEP_KIND)?,
-                next(LARGEST_PLACE)?,
-                next(LARGEST_PLACE)?,
-            ]);
-        }
-        let script = Script { rows, room, steps };
-        rest.next().is_none().then_some(script)
+        let count = next(MOST_IN_A_LIST)?;
+        let steps = steps(&rest.collect::<Vec<u64>>(), count)?;
+        Ok(Script { rows, room, steps })
     }
 
     /// The plain form: a row a line, a step a line.
@@ -61,8 +66,30 @@ impl Script {
     }
 }
 
-fn numbers(input: &[u8]) -> Option<Vec<u64>> {
-    let is_blank = |byte: &u8| matches!(byte, b' ' | b'\t' | b'\r' | b'\n');
-    let words = input.split(is_blank).filter(|word| !word.is_empty());
-    words.map(number).collect()
+fn numbers(input: &[u8]) -> Result<Vec<u64>, NoScript> {
+    let is_blank = |byte: &u8| matches!(byte, b' ' | b'\t' | b'\r');
+    let mut numbers = Vec::new();
+    for (above, line) in input.split(|byte| *byte == b'\n').enumerate() {
+        let words = line.split(is_blank).filter(|word| !word.is_empty());
+        for word in words {
+            let odd = || NoScript(format!("line {}", above + 1));
+            numbers.push(number(word).ok_or_else(odd)?);
+        }
+    }
+    Ok(numbers)
+}
+
+/// There must be just as many as are wanted before any of them is looked at.
+fn steps(numbers: &[u64], count: u64) -> Result<Vec<Step>, NoScript> {
+    if numbers.len() as u64 != 3 * count {
+        return Err(NoScript::nowhere());
+    }
+    let mut steps = Vec::new();
+    for (index, step) in numbers.chunks(3).enumerate() {
+        if step[0] > LARGEST_STEP_KIND || step[1..].iter().any(|place| *place > LARGEST_PLACE) {
+            return Err(NoScript(format!("step {index}")));
+        }
+        steps.push([step[0], step[1], step[2]]);
+    }
+    Ok(steps)
 }

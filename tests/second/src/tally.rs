@@ -37,7 +37,7 @@ impl Tally {
     pub fn count(&mut self, sort: &str, outcome: &Outcome) {
         self.add(format!("script: {sort}"));
         match outcome {
-            Outcome::NoScript => self.add(String::from("answer refused script")),
+            Outcome::NoScript(_) => self.add(String::from("answer refused script")),
             Outcome::Refused(refusal) => {
                 self.add(String::from("answer refused 13"));
                 self.add(format!("graph refused {}", refusal.number));

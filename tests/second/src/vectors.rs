@@ -19,8 +19,8 @@ pub struct Written {
 
 pub const SCRIPTS: Written = Written {
     are_csv: false,
-    ours: replay::replay,
-    fault_beside: |_, _| None,
+    ours: |input| replay::replay(input).to_string(),
+    fault_beside: |input, output| replay::replay(input).fault_in_errors(&output.errors),
 };
 
 pub const FILES: Written = Written {
