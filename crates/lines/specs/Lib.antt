@@ -1,2 +1,2 @@
--- The lines of a replay.
+-- The lines that the programs answer with.
 pub mod Lines

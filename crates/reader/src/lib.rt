@@ -8,7 +8,3 @@ pub use files::Outcome;
 pub use files::Told;
 pub use files::read_file;
 pub use files::told_as;
-pub use places::NumberAt;
-pub use places::SetAt;
-pub use places::number_at;
-pub use places::set_at;

@@ -45,9 +45,13 @@ nodeLines (k ∷ l) = decimal k ++ word "\n" ++ nodeLines l
 abbrev pub refusalLine : Outcome → List ℕ
 refusalLine o = refusedLine (toldAs o .number) (toldAs o .place)
 
--- the text that answers an input; 21 is of no line or row, and gives 0
+-- 21 is of no line or row, and gives 0
+abbrev pub longLine : List ℕ
+longLine = refusedLine 21 0
+
+-- the text that answers an input
 unfoldable pub Answers : Input → List ℕ → Type 0
-Answers TooLong t = t ≡ refusedLine 21 0
+Answers TooLong t = t ≡ longLine
 Answers (Says (Line line)) t = t ≡ refusalLine (Outcome·Line line)
 Answers (Says (Refused r)) t = t ≡ refusalLine (Outcome·Refused r)
 Answers (Says (Graph n rows)) t = (l : List ℕ) × Stuck n rows l × (t ≡ nodeLines l)

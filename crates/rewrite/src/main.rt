@@ -3,12 +3,12 @@
 use reasons::reasons;
 use reasons::words_room;
 use report::file_room;
-use rewritten::file_room as text_room;
 use rewritten::rewritten;
 use streams::Input;
 use streams::read_all;
 use streams::say;
 use streams::write_all;
+use writer::file_room as text_room;
 
 fn explain(file: &[u8]) {
     let mut words = words_room();

@@ -3,7 +3,7 @@ use mathlib.Core.Path.{_≡_, refl, sym, ap, ap₂, _∙_}
 use mathlib.Core.List.{List, _++_}
 use Prim.Native.Nat.{ℕ, _*_, _≤_, _<_}
 use native.Mathlib.Omega.{arith}
-use lib.ListN.{length, take, drop, length-replicate, length-append}
+use lib.ListN.{length, take, drop, replicate, length-replicate, length-append}
 use lib.Seq.{take-at}
 use borrow.Author.Tests.{lt-ltb, le-ltb}
 use Rattle.lemmas.proofs.Cases.{at-true, at-false}
@@ -24,21 +24,24 @@ use Rattle.reader.specs.declared.files.File.{File}
 use Rattle.reader.specs.Answers.{numbers, zeros, noGraph, fileSaid}
 use Rattle.writer.specs.declared.Written.{Written}
 use Rattle.writer.specs.declared.Written.the-variants.{Bytes, Refused as Written·Refused}
-use Rattle.writer.specs.Answer.{shortRoom, checkFileOf, answer, leave, writtenOf, leftOf, WrittenSays}
+use Rattle.writer.specs.Answer.{shortRoom, checkFileOf, answer, leave, writtenOf, leftOf, WrittenSays, longestFile}
 use Rattle.writer.proofs.Lengths.{file-short}
 use Rattle.report.specs.Report.{longest, Input, inputOf, Answers, Answered}
 use Rattle.report.specs.Report.Input.{TooLong, Says}
 use Rattle.report.proofs.Settle.{read-accepted}
 use Rattle.report.proofs.Unique.{one-answer}
-use Rattle.rewritten.specs.Rewritten.{writtenBack, rewrittenOf, longestText}
+use Rattle.rewritten.specs.Rewritten.{writtenBack, rewrittenOf}
 
 -- ---- the writer refuses neither an accepted graph nor room for any file
-module _ (n : ℕ) (rows found : List ℕ) (ok : checkOf n rows ≡ Accepted) (roomy : longestText ≡ length found) where
+module _ (n : ℕ) (rows found : List ℕ) (ok : checkOf n rows ≡ Accepted) (roomy : found ≡ replicate longestFile 0) where
+  room-enough : length found ≡ longestFile
+  room-enough = ap length roomy ∙ length-replicate longestFile 0
+
   accepted : checkFileOf n rows (length found) ≡ Accepted
   unfolding checkOf checkFileOf shortRoom
   accepted =
       let last : Rule = line 15 0 (shortRoom n rows (length found)) in
-      sym (not-refused last (next (graphLines n rows) last) ok (le-ltb (length found) (length (fileOf n rows)) (omega (arith, file-short n rows ok))))
+      sym (not-refused last (next (graphLines n rows) last) ok (le-ltb (length found) (length (fileOf n rows)) (omega (arith, room-enough, file-short n rows ok))))
 
   module _ (left : List ℕ) (r : Written) (says : WrittenSays n rows found left r) where
     is-written : r ≡ Bytes (length (fileOf n rows))

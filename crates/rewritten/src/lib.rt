@@ -1,27 +1,19 @@
 // A file of waits in, its graph's file out as the writer writes it, or the refusal.
 ghost use mathlib.Core.Path.{_≡_};
-ghost use lib.ListN.{length};
 ghost use Rattle.waits.specs.declared.numbers.Checked.the-variants.{Accepted};
 ghost use Rattle.waits.specs.Numbers.{checkOf};
 ghost use Rattle.text.specs.Text.{text, write};
 ghost use Rattle.format.specs.Written.{fileOf};
-ghost use Rattle.rewritten.specs.Rewritten.{rewrittenOf, longestText};
+ghost use Rattle.rewritten.specs.Rewritten.{rewrittenOf};
 use reader::Outcome;
 use reader::read_file;
 use report::BYTES;
 use report::report;
 use text::bytes;
 use waits::ROW;
-use writer::LONGEST;
 use writer::Written;
+use writer::file_room;
 use writer::write_file;
-
-// Room for any answer: a refusal is shorter than the longest file.
-pub fn file_room() -> [u8; LONGEST]
-    ensures { λ r. ⌜ longestText ≡ length r ⌝ }
-{
-    [0; LONGEST]
-}
 
 // The file of an accepted graph. The writer refuses neither the graph nor the room that it is lent.
 fn graph(room: &mut [u8], nodes: usize, rows: &[u64]) -> usize
