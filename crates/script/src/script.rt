@@ -9,7 +9,7 @@ use crate::steps::code_steps;
 use crate::steps::good_steps;
 
 // At most this many row numbers, this much room and this many steps.
-const MOST: u64 = 8192;
+pub const MOST: u64 = 8192;
 
 // The places that the two lent lists must have.
 pub const STEPS: usize = 8192;

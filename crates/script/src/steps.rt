@@ -8,9 +8,9 @@ ghost use Rattle.lent.specs.Steps.{stepNumber};
 ghost use Rattle.script.specs.Steps.{goodStep, goodSteps, stepsOf};
 
 // A step's kind is below KINDS, and its other two numbers are below PARTS.
-const KINDS: u64 = 65536;
+pub const KINDS: u64 = 65536;
 
-const PARTS: u64 = 16777216;
+pub const PARTS: u64 = 16777216;
 
 fn good_step(kind: u64, a: u64, b: u64) -> bool
     ensures { λ r. ⌜ r ≡ goodStep kind a b ⌝ }

@@ -35,16 +35,16 @@ module _ (l : List ℕ) (j at : ℕ) (i : stepSnag j (drop at l) ≡ stepSnag 0 
     pub step-kind : 65535 < getD l at 0 → Kind j ≡ stepSnag 0 l
     step-kind a = at-true _ (lt-ltb 65535 (getD l at 0) a) refl ∙ here
 
-    module _ (a : getD l at 0 ≤ 65535) where
+    module _ (a : getD l at 0 < 65536) where
       pub step-first : 16777215 < getD l (at + 1) 0 → First j ≡ stepSnag 0 l
-      step-first b = at-false _ (le-ltb 65535 (getD l at 0) a) (at-true _ (lt-ltb 16777215 (getD l (at + 1) 0) b) refl) ∙ here
+      step-first b = at-false _ (le-ltb 65535 (getD l at 0) (omega arith)) (at-true _ (lt-ltb 16777215 (getD l (at + 1) 0) b) refl) ∙ here
 
-      module _ (b : getD l (at + 1) 0 ≤ 16777215) where
+      module _ (b : getD l (at + 1) 0 < 16777216) where
         last : {r : Snag} → r ≡ cond (ltb 16777215 (getD l (at + 2) 0)) (Second j) (stepSnag (suc j) (drop (at + 3) l)) → r ≡ stepSnag 0 l
-        last e = at-false _ (le-ltb 65535 (getD l at 0) a) (at-false _ (le-ltb 16777215 (getD l (at + 1) 0) b) e) ∙ here
+        last e = at-false _ (le-ltb 65535 (getD l at 0) (omega arith)) (at-false _ (le-ltb 16777215 (getD l (at + 1) 0) (omega arith)) e) ∙ here
 
         pub step-second : 16777215 < getD l (at + 2) 0 → Second j ≡ stepSnag 0 l
         step-second c = last (at-true _ (lt-ltb 16777215 (getD l (at + 2) 0) c) refl)
 
-        pub step-next : getD l (at + 2) 0 ≤ 16777215 → stepSnag (j + 1) (drop (at + 3) l) ≡ stepSnag 0 l
-        step-next c = last (at-false _ (le-ltb 16777215 (getD l (at + 2) 0) c) (ap (λ (k : ℕ). stepSnag k (drop (at + 3) l)) (add-one j)))
+        pub step-next : getD l (at + 2) 0 < 16777216 → stepSnag (j + 1) (drop (at + 3) l) ≡ stepSnag 0 l
+        step-next c = last (at-false _ (le-ltb 16777215 (getD l (at + 2) 0) (omega arith)) (ap (λ (k : ℕ). stepSnag k (drop (at + 3) l)) (add-one j)))

@@ -13,7 +13,7 @@ use Rattle.script.specs.Script.{most, mostNumbers, longest}
 use Rattle.snags.specs.declared.finding.Snag.{Snag}
 use Rattle.snags.specs.declared.finding.Snag.the-variants.{Nothing, Long, Odd, Large, Crowd, Few, ManyRows, WideRoom, ManySteps, Uneven, Kind, First, Second}
 
--- ---- the steps, numbered from j on: the first of which one number can't hold the kind, a or b
+-- ---- the steps, numbered from j on: the first whose kind, a or b is larger than a step can have
 unfoldable pub stepSnag : (j : ℕ) → List ℕ → Snag
 stepSnag j [] = Nothing
 stepSnag j (kind ∷ []) = Nothing

@@ -3,18 +3,13 @@ ghost use mathlib.Core.Path.{_≡_};
 ghost use Rattle.snags.specs.Snags.{stepSnag, numbersSnag, snagOf};
 use script::BYTES;
 use script::Count;
+use script::KINDS;
+use script::MOST;
 use script::NUMBERS;
+use script::PARTS;
 use script::Stop;
 use script::read;
 use script::stop_of;
-
-// At most this many row numbers, this much room and this many steps.
-const MOST: u64 = 8192;
-
-// A step's kind is at most KIND, and its other two numbers are at most PART.
-const KIND: u64 = 65535;
-
-const PART: u64 = 16777215;
 
 pub enum Snag {
     Nothing,
@@ -47,13 +42,13 @@ fn step_snag(list: &[u64]) -> Snag
     let mut at: usize = 0;
     let mut j: usize = 0;
     while at + 2 < list.len() {
-        if KIND < list[at] {
+        if KINDS <= list[at] {
             return Snag::Kind(j);
         }
-        if PART < list[at + 1] {
+        if PARTS <= list[at + 1] {
             return Snag::First(j);
         }
-        if PART < list[at + 2] {
+        if PARTS <= list[at + 2] {
             return Snag::Second(j);
         }
         at += 3;
