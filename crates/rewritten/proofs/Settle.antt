@@ -35,7 +35,7 @@ use Rattle.rewritten.specs.Rewritten.{writtenBack, rewrittenOf}
 -- ---- the writer refuses neither an accepted graph nor room for any file
 module _ (n : ℕ) (rows found : List ℕ) (ok : checkOf n rows ≡ Accepted) (roomy : found ≡ replicate longestFile 0) where
   room-enough : length found ≡ longestFile
-  room-enough = ap length roomy ∙ length-replicate longestFile 0
+  room-enough = ap length roomy ∙ length-replicate {A = ℕ} longestFile 0
 
   accepted : checkFileOf n rows (length found) ≡ Accepted
   unfolding checkOf checkFileOf shortRoom
