@@ -4,6 +4,7 @@ use snags::snag_room;
 use snags::snags;
 use streams::Input;
 use streams::read_all;
+use streams::say;
 use streams::write_all;
 use transcript::script_room;
 use transcript::text_room;
@@ -12,7 +13,7 @@ use transcript::transcript;
 fn explain(script: &[u8]) {
     let mut words = snag_room();
     let said = snags(script, &mut words);
-    write_all(2, &words[..said]);
+    say(b"replay: ", &words[..said]);
 }
 
 fn answer(script: &[u8]) {

@@ -93,12 +93,12 @@ placed-length name n said k h b =
 counted-length : (there : ℕ) (least : List ℕ) (want : ℕ) → there < 100000 → want < 100000 → length least ≤ 16 → length (counted there least want) ≤ longestWords
 unfolding word
 counted-length there least want a b h =
-    let w₁ : List ℕ = word "replay: the count of numbers is " ++ decimal there in
+    let w₁ : List ℕ = word "the count of numbers is " ++ decimal there in
     let w₂ : List ℕ = w₁ ++ least in
     let w₃ : List ℕ = w₂ ++ decimal want in
-    joined w₃ (word " are wanted\n") 58 12
-    (joined w₂ (decimal want) 53 5
-    (joined w₁ least 37 16 (joined (word "replay: the count of numbers is ") (decimal there) 32 5 (omega arith) (decimal-five there a)) h)
+    joined w₃ (word " are wanted\n") 50 12
+    (joined w₂ (decimal want) 45 5
+    (joined w₁ least 29 16 (joined (word "the count of numbers is ") (decimal there) 24 5 (omega arith) (decimal-five there a)) h)
     (decimal-five want b))
     (omega arith)
 
@@ -106,17 +106,17 @@ words-length : (s : Snag) → Small s → length (wordsFor s) ≤ longestWords
 unfolding wordsFor word
 words-length Nothing h = omega arith
 words-length Long h = omega arith
-words-length (Odd line) h = placed-length (word "replay: line ") line (word ": a character that is neither a digit nor a blank\n") 7 (decimal-seven line h) (omega arith)
-words-length (Large line) h = placed-length (word "replay: line ") line (word ": a number past 64 bits\n") 7 (decimal-seven line h) (omega arith)
+words-length (Odd line) h = placed-length (word "line ") line (word ": a character that is neither a digit nor a blank\n") 7 (decimal-seven line h) (omega arith)
+words-length (Large line) h = placed-length (word "line ") line (word ": a number past 64 bits\n") 7 (decimal-seven line h) (omega arith)
 words-length Crowd h = omega arith
 words-length (Few there want) h = counted-length there (word ", and at least ") want (h .0) (h .1) (omega arith)
 words-length ManyRows h = omega arith
 words-length WideRoom h = omega arith
 words-length ManySteps h = omega arith
 words-length (Uneven there want) h = counted-length there (word ", and ") want (h .0) (h .1) (omega arith)
-words-length (Kind j) h = placed-length (word "replay: step ") j (word ": its kind is above 65535\n") 5 (decimal-five j h) (omega arith)
-words-length (First j) h = placed-length (word "replay: step ") j (word ": a is above 16777215\n") 5 (decimal-five j h) (omega arith)
-words-length (Second j) h = placed-length (word "replay: step ") j (word ": b is above 16777215\n") 5 (decimal-five j h) (omega arith)
+words-length (Kind j) h = placed-length (word "step ") j (word ": its kind is above 65535\n") 5 (decimal-five j h) (omega arith)
+words-length (First j) h = placed-length (word "step ") j (word ": a is above 16777215\n") 5 (decimal-five j h) (omega arith)
+words-length (Second j) h = placed-length (word "step ") j (word ": b is above 16777215\n") 5 (decimal-five j h) (omega arith)
 
 module _ (bytes : List ℕ) where
   abbrev line : List ℕ

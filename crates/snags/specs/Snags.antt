@@ -66,23 +66,23 @@ abbrev pub placed : (name : List ℕ) → ℕ → (said : List ℕ) → List ℕ
 placed name n said = name ++ decimal n ++ said
 
 abbrev pub counted : (there : ℕ) → (least : List ℕ) → (want : ℕ) → List ℕ
-counted there least want = word "replay: the count of numbers is " ++ decimal there ++ least ++ decimal want ++ word " are wanted\n"
+counted there least want = word "the count of numbers is " ++ decimal there ++ least ++ decimal want ++ word " are wanted\n"
 
 unfoldable pub wordsFor : Snag → List ℕ
 wordsFor Nothing = []
-wordsFor Long = word "replay: the script has more than 1048576 bytes\n"
-wordsFor (Odd line) = placed (word "replay: line ") line (word ": a character that is neither a digit nor a blank\n")
-wordsFor (Large line) = placed (word "replay: line ") line (word ": a number past 64 bits\n")
-wordsFor Crowd = word "replay: there are more than 32772 numbers\n"
+wordsFor Long = word "the script has more than 1048576 bytes\n"
+wordsFor (Odd line) = placed (word "line ") line (word ": a character that is neither a digit nor a blank\n")
+wordsFor (Large line) = placed (word "line ") line (word ": a number past 64 bits\n")
+wordsFor Crowd = word "there are more than 32772 numbers\n"
 wordsFor (Few there want) = counted there (word ", and at least ") want
-wordsFor ManyRows = word "replay: the count of row numbers is above 8192\n"
-wordsFor WideRoom = word "replay: the room is above 8192\n"
-wordsFor ManySteps = word "replay: the count of steps is above 8192\n"
+wordsFor ManyRows = word "the count of row numbers is above 8192\n"
+wordsFor WideRoom = word "the room is above 8192\n"
+wordsFor ManySteps = word "the count of steps is above 8192\n"
 wordsFor (Uneven there want) = counted there (word ", and ") want
-wordsFor (Kind j) = placed (word "replay: step ") j (word ": its kind is above 65535\n")
-wordsFor (First j) = placed (word "replay: step ") j (word ": a is above 16777215\n")
-wordsFor (Second j) = placed (word "replay: step ") j (word ": b is above 16777215\n")
+wordsFor (Kind j) = placed (word "step ") j (word ": its kind is above 65535\n")
+wordsFor (First j) = placed (word "step ") j (word ": a is above 16777215\n")
+wordsFor (Second j) = placed (word "step ") j (word ": b is above 16777215\n")
 
 -- no such line is longer
 abbrev pub longestWords : ℕ
-longestWords = 70
+longestWords = 62

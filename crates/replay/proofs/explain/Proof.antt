@@ -15,14 +15,17 @@ slice-aggregate-snags c = search needs
 snags-requires : tie.Need-snags-requires
 snags-requires c κs = search needs
 
+slice-aggregate-say : tie.Need-slice-aggregate-say
+slice-aggregate-say c = search needs
+
 array-share-prefix-words : tie.Need-array-share-prefix-words
-array-share-prefix-words c = written-end _ _ (c .before .snags .ensures)
+array-share-prefix-words c = written-end _ _ (c .before .before .snags .ensures)
 
-slice-aggregate-write-all : tie.Need-slice-aggregate-write-all
-slice-aggregate-write-all c = sym (length-take-le _ _ (written-end _ _ (c .before .before .snags .ensures)))
+slice-aggregate-say-2 : tie.Need-slice-aggregate-say-2
+slice-aggregate-say-2 c = sym (length-take-le _ _ (written-end _ _ (c .before .before .before .snags .ensures)))
 
-write-all-requires : tie.Need-write-all-requires
-write-all-requires c κs = search needs
+say-requires : tie.Need-say-requires
+say-requires c κs = search needs
 
 returns : tie.Need-returns
 returns c = search needs
@@ -34,7 +37,8 @@ explain-spec =
     snag-room-requires
     slice-aggregate-snags
     snags-requires
+    slice-aggregate-say
     array-share-prefix-words
-    slice-aggregate-write-all
-    write-all-requires
+    slice-aggregate-say-2
+    say-requires
     returns)
