@@ -30,7 +30,8 @@ static void transmit(uint64_t message)
 }
 
 /* Where every round gets its number, whichever controller opens it: one of them keeps this counter for all. It is stored before the
- * number is handed out, so that no number is ever handed out again; one that is never used is just skipped. */
+ * number is handed out, so that no number is ever handed out again; one that is never used is just skipped. Here a number is used at
+ * once. Where it has a way to go, the keeper waits until it is used or given up before it hands out the next. */
 static uint64_t stored_counter;
 
 static uint64_t next_round(void)
@@ -89,8 +90,8 @@ static int deliver(struct controller rooms[], unsigned from, unsigned to)
     int ended = 0;
     for (unsigned k = from; k < to && k < count; k++) {
         struct controller *receiver = &rooms[coldroom_message_to(sent[k])];
-        if (verdict(arrived(receiver, sent[k])))
-            ended = receiver->record[COLDROOM_ROUND] == stored_counter;
+        if (verdict(arrived(receiver, sent[k])) && receiver->record[COLDROOM_ROUND] == stored_counter)
+            ended = 1;
     }
     return ended;
 }
@@ -118,8 +119,8 @@ int main(void)
     /* Node 0 opens a round. Before it has ended node 2 opens one too, and what is still under way of the first comes late. */
     verdict(open_round(&rooms[0]));
     deliver(rooms, 0, EARLY);
-    verdict(open_round(&rooms[2]));
-    ended = deliver(rooms, EARLY, MOST);
+    ended = verdict(open_round(&rooms[2]));
+    ended |= deliver(rooms, EARLY, MOST);
     for (unsigned k = 0; k < count; k++)
         printf("message %u %s %d %d %d\n", k, names[coldroom_message_kind(sent[k])], (int)coldroom_message_from(sent[k]),
                (int)coldroom_message_to(sent[k]), (int)coldroom_message_round(sent[k]));

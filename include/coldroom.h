@@ -1,4 +1,4 @@
-/* coldroom.h: the deadlock detector for voting claims, for C99 and C++. Link libcoldroom.a (`rt staticlib coldroom`).
+/* coldroom.h: the deadlock detector for voting claims, for C99. Link libcoldroom.a (`rt staticlib coldroom`).
  *
  * Each call of the library is proved to do what is said of it here for every input, bad input too: nothing undefined happens, it
  * ends, and a call that is refused leaves all lent memory as it was. There is no heap, no state between calls and no other library.
@@ -63,12 +63,15 @@ enum {
     COLDROOM_SENDS = 4        /* and what a step sends */
 };
 
-/* The places of a record. From the last one on it has four sets: of the nodes whose NOTIFY, GRANT, ACK and DONE were had. */
+/* The places of a record. The last four are sets: of the nodes whose NOTIFY, GRANT, ACK and DONE were had. */
 enum {
     COLDROOM_ROUND = 0, /* the round that it is in */
     COLDROOM_CALL = 1,  /* 0 not called, 1 opened this round itself, k + 2 called by node k */
     COLDROOM_FREED = 2, /* 0 not free, 1 free by itself, k + 2 freed by node k */
-    COLDROOM_HAD = 3    /* COLDROOM_HAD + COLDROOM_GRANT, say, is the place of the set whose GRANT was had */
+    COLDROOM_HAD_NOTIFY = 3,
+    COLDROOM_HAD_GRANT = 4,
+    COLDROOM_HAD_ACK = 5,
+    COLDROOM_HAD_DONE = 6
 };
 
 /* The kinds of messages, which are also the places of their receivers in `sends`. */
@@ -101,7 +104,7 @@ static inline uint64_t coldroom_number(uint64_t result) { return result % 256; }
 static inline uint64_t coldroom_row(uint64_t result) { return result / 256; }
 static inline uint64_t coldroom_value(uint64_t result) { return result - COLDROOM_PLUS; }
 
-/* Of coldroom_open, coldroom_deliver and coldroom_step: whether the step did anything. Only then was anything written. */
+/* Of coldroom_open, coldroom_deliver and coldroom_step: whether the step did anything. Only then did anything lent change. */
 static inline int coldroom_acted(uint64_t result)
 {
     return !coldroom_refused(result) && coldroom_value(result) >= COLDROOM_TAKEN;
@@ -229,7 +232,9 @@ uint64_t coldroom_in(uint64_t nodes, const uint64_t *rows, uint64_t rows_length,
  * which has opened that round itself, answers DONE at once. If DONE comes before GRANT, 1 says "deadlocked", and it isn't. No call is
  * refused: 10 is given by the record of this controller, which can't see what another has opened. With one initiator alone the
  * record would do. With more, one of them keeps a counter for all: it adds one, stores the sum, and only then hands it out, to itself
- * too; every round takes the next number, and a number whose round was never opened is just skipped. examples/controller.c does it so. */
+ * too; every round takes the next number, and a number whose round was never opened is just skipped. Numbers are used in the order in
+ * which they are handed out: the next one is handed out when the last has been opened or given up, since nothing is promised of a
+ * round that is opened after a higher one. examples/controller.c does it so. */
 uint64_t coldroom_open(uint64_t nodes, uint64_t me, const uint64_t *row, uint64_t row_length, uint64_t in,
                        uint64_t record[COLDROOM_RECORD], uint64_t round, uint64_t sends[COLDROOM_SENDS]);
 

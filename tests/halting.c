@@ -1,5 +1,5 @@
 /* Starts a program whose standard input isn't ready: it comes through a pipe that doesn't block, the first half of a file at once and
- * the second half half a second later.
+ * the second half when the program has ended without it, or ten seconds later. On a busy machine it may be slow to ask.
  *   halting FILE PROGRAM [ARGUMENT...] */
 #define _DEFAULT_SOURCE
 #include <fcntl.h>
@@ -26,7 +26,7 @@ static void start(int input, char **program)
 int main(int count, char **words)
 {
     static char text[1 << 15];
-    int ends[2], status;
+    int ends[2], status, ended = 0;
     if (count < 3) {
         fprintf(stderr, "usage: halting FILE PROGRAM [ARGUMENT...]\n");
         return 2;
@@ -42,11 +42,15 @@ int main(int count, char **words)
         start(ends[0], words + 2);
     }
     usleep(500000);
+    for (int waited = 0; waited < 95 && !ended; waited++) {
+        usleep(100000);
+        ended = waitpid(child, &status, WNOHANG) == child;
+    }
     /* Nobody need be reading by now. */
     if (write(ends[1], text + length / 2, length - length / 2) < 0)
         perror("halting");
     close(ends[1]);
     close(ends[0]);
-    need(waitpid(child, &status, 0) == child, "halting");
+    need(ended || waitpid(child, &status, 0) == child, "halting");
     return WIFEXITED(status) ? WEXITSTATUS(status) : 1;
 }

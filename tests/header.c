@@ -48,7 +48,7 @@ static void open_both(uint64_t me, uint64_t round)
     uint64_t bench = coldroom_step(NODES, rows, NODES * COLDROOM_ROW, records, NODES * COLDROOM_RECORD, messages, ROOM,
                                    &sent, &highest, 0, me, round);
     see(alone == bench && alone == COLDROOM_PLUS + COLDROOM_OPENED, "an opening");
-    see(kept[me][COLDROOM_CALL] == 1 && kept[me][COLDROOM_FREED] == 0 && kept[me][COLDROOM_HAD + COLDROOM_DONE] == 0, "the places of a record");
+    see(kept[me][COLDROOM_CALL] == 1 && kept[me][COLDROOM_FREED] == 0, "the places of a record");
     see_sent(me, alone, sends, from);
 }
 
@@ -106,6 +106,8 @@ int main(void)
     for (uint64_t k = 3; k < sent; k++)
         last = deliver_both(k);
     see(last == COLDROOM_PLUS + COLDROOM_TAKEN_DEADLOCKED && kept[2][COLDROOM_ROUND] == 2, "the verdict");
+    see(kept[0][COLDROOM_HAD_NOTIFY] == 12 && kept[0][COLDROOM_HAD_GRANT] == 2 && kept[0][COLDROOM_HAD_ACK] == 0 &&
+            kept[0][COLDROOM_HAD_DONE] == 14, "who is had by node 0");
     see(!coldroom_acted(deliver_both(0)) && !coldroom_acted(13) && !coldroom_acted(COLDROOM_PLUS + COLDROOM_STRAY), "coldroom_acted");
     see_words();
     see_trap();

@@ -62,7 +62,7 @@ graphJudged n stored =
     (noGraph (Outcome·Refused (record { number = 1; row = record { 0 = 0 } })))
     (checkedAs n stored (checkOf n (take (n * rowSize) stored)))
 
--- the number by which each outcome is known, with its line or row: 20 is the line's, a graph has its own, and one that isn't refused has none
+-- the number by which each outcome is known, with its line or row: 20 is the line's, a refused graph has its own, and one that isn't refused has none
 abbrev pub toldAs : Outcome → Told
 toldAs Outcome·Graph = record { number = 0; place = 0 }
 toldAs (Outcome·Line line) = record { number = 20; place = line }

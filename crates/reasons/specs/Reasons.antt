@@ -43,7 +43,11 @@ flawWords Descends = word " isn't ascending"
 abbrev pub ofLine : ℕ → List ℕ → List ℕ
 ofLine line words = word "line " ++ decimal line ++ words
 
--- what is wrong with a line; line k + 2 is that of node k
+-- line k + 2 is that of node k
+abbrev pub notNextWords : ℕ → List ℕ
+notNextWords line = ofLine line (word ": its node isn't ") ++ decimal (line - 2) ++ word ", the next one"
+
+-- what is wrong with a line
 unfoldable pub faultWords : (line : ℕ) → Fault → List ℕ
 faultWords line EmptyFile = word "the file is empty; line 1 must be the header node,kind,threshold,set1,set2,set3,set4"
 faultWords line Mark = ofLine line (word " begins with a byte-order mark, which is no part of the header")
@@ -52,7 +56,7 @@ faultWords line BareLf = ofLine line (word " ends in LF where CR LF is wanted")
 faultWords line Semicolons = ofLine line (word ": its fields are separated by semicolons where commas are wanted")
 faultWords line (Column column f) = ofLine line (word ": ") ++ columnName column ++ flawWords f
 faultWords line MoreFields = ofLine line (word ": it has more than seven fields")
-faultWords line NotNext = ofLine line (word ": its node isn't ") ++ decimal (line - 2) ++ word ", the next one"
+faultWords line NotNext = notNextWords line
 
 unfoldable pub lineReason : List ℕ → ℕ → List ℕ
 lineReason bytes line = faultWords line (faultOf bytes line) ++ word "\n"

@@ -16,7 +16,7 @@ use waits::Refusal;
 mod words;
 
 // No such line is longer.
-pub const WORDS: usize = 88;
+const WORDS: usize = 88;
 
 // Room for any reason.
 pub fn words_room() -> [u8; WORDS]

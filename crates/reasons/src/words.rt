@@ -2,7 +2,7 @@
 ghost use mathlib.Core.Path.{_≡_};
 ghost use Prim.Native.Nat.{_-_};
 ghost use Rattle.text.specs.Text.{text, write};
-ghost use Rattle.reasons.specs.Reasons.{columnName, flawWords, ofLine, faultWords, numberWords, placeWords};
+ghost use Rattle.reasons.specs.Reasons.{columnName, flawWords, ofLine, notNextWords, faultWords, numberWords, placeWords};
 use faults::Fault;
 use faults::Flaw;
 use nodes::PLACES;
@@ -67,6 +67,15 @@ fn node_on(line: usize) -> u64
     (line - 2) as u64
 }
 
+// A line that is a row, but not that of the next node.
+fn not_next_words(room: &mut [u8], at: usize, line: usize) -> usize
+    ensures { λ r. ⌜ text (now (room .exit)) r ≡ write (text (now (room .entry)) at) (notNextWords line) ⌝ }
+{
+    let mut end = of_line(room, at, line, b": its node isn't ");
+    end = decimal(room, end, node_on(line));
+    bytes(room, end, b", the next one")
+}
+
 // What is wrong with a line.
 pub fn fault_words(room: &mut [u8], at: usize, line: usize, f: Fault) -> usize
     ensures { λ r. ⌜ text (now (room .exit)) r ≡ write (text (now (room .entry)) at) (faultWords line f) ⌝ }
@@ -102,11 +111,7 @@ pub fn fault_words(room: &mut [u8], at: usize, line: usize, f: Fault) -> usize
             flaw_words(room, end, flaw)
         }
         Fault::MoreFields => of_line(room, at, line, b": it has more than seven fields"),
-        Fault::NotNext => {
-            let mut end = of_line(room, at, line, b": its node isn't ");
-            end = decimal(room, end, node_on(line));
-            bytes(room, end, b", the next one")
-        }
+        Fault::NotNext => not_next_words(room, at, line),
     }
 }
 

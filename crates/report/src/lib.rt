@@ -22,10 +22,10 @@ use waits::ROW;
 pub const BYTES: usize = 65_536;
 
 // One byte more than a file may have, so that a longer one is seen to be too long.
-pub const FILE: usize = 65_537;
+const FILE: usize = 65_537;
 
 // No answer is longer: it has a line of at most three bytes for each of at most 64 nodes, or is a refusal of at most 20.
-pub const TEXT: usize = 192;
+const TEXT: usize = 192;
 
 // Room for a file.
 pub fn file_room() -> [u8; FILE]

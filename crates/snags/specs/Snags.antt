@@ -1,4 +1,5 @@
--- The first thing, in reading order, that keeps bytes from being a script, and the line that says it. Assumes nothing.
+-- What keeps bytes from being a script, the first thing that does: of the bytes, of how many numbers there are, of the steps; and the line that
+-- says it. Assumes nothing.
 use mathlib.Core.Bool.{cond, not}
 use mathlib.Core.List.{List, [], _∷_, _++_}
 use Prim.Native.Nat.{ℕ, suc, _+_, _-_, _*_}

@@ -1,4 +1,4 @@
-// The first thing, in reading order, that keeps bytes from being a script.
+// What keeps bytes from being a script, the first thing that does: of the bytes, of how many numbers there are, of the steps.
 ghost use mathlib.Core.Path.{_≡_};
 ghost use Rattle.snags.specs.Snags.{stepSnag, numbersSnag, snagOf};
 use script::BYTES;

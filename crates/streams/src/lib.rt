@@ -78,7 +78,7 @@ pub fn read_all(fd: i32, room: &mut [u8]) -> Input
     Input::Bytes(done)
 }
 
-// Writes all of a text, or answers false, and errno says why.
+// Writes all of a text, or answers false, and errno says why, unless a write took nothing.
 pub fn write_all(fd: i32, text: &[u8]) -> bool {
     let mut done: usize = 0;
     let mut tries: usize = TRIES;

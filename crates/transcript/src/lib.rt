@@ -21,10 +21,10 @@ use script::parse;
 use waits::Checked;
 
 // One byte more than a script may have, so that a longer one is seen to be too long.
-pub const SCRIPT: usize = 1_048_577;
+const SCRIPT: usize = 1_048_577;
 
 // No text is longer, whatever the script.
-pub const TEXT: usize = 393_216;
+const TEXT: usize = 393_216;
 
 // Room for a script.
 pub fn script_room() -> [u8; SCRIPT]

@@ -23,7 +23,7 @@ use waits::check;
 use waits::row_at;
 
 // No file of an accepted graph is longer: 41 bytes for the header, 14 for each of at most 64 rows, 12 for each of at most 512 edges.
-pub const LONGEST: usize = 7081;
+const LONGEST: usize = 7081;
 
 pub enum Written {
     Bytes(usize),

@@ -125,12 +125,7 @@ impl CallTally {
                 self.graph(rows);
                 self.room(rows, room.len());
             }
-            CheckEvidence(rows, node, list) => {
-                self.graph(rows);
-                self.list(rows, list, result);
-                self.refused_list(rows, *node as usize, list, result);
-                self.failing_list(rows, *node as usize, list, result);
-            }
+            CheckEvidence(rows, node, list) => self.evidence(rows, *node as usize, list, result),
             In(rows, _, set) => {
                 self.graph(rows);
                 self.waiting(*set, result);
@@ -150,6 +145,13 @@ impl CallTally {
             }
             Run(bench, steps, answers) => self.run(bench, result, steps, answers),
         }
+    }
+
+    fn evidence(&mut self, rows: &Rows, node: usize, list: &[u8], result: u64) {
+        self.graph(rows);
+        self.list(rows, list, result);
+        self.refused_list(rows, node, list, result);
+        self.failing_list(rows, node, list, result);
     }
 
     fn waiting(&mut self, set: u64, result: u64) {

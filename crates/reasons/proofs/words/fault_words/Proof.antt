@@ -1,9 +1,7 @@
 -- `fault_words` meets its contract. Assumes nothing.
-use mathlib.Core.Path.{ap, _∙_}
 use borrow.Author.Needs.{needs}
 use Rattle.text.proofs.Writing.{write-both}
-use Rattle.text.specs.Text.{write}
-use Rattle.text.specs.Words.{word, decimal}
+use Rattle.text.specs.Words.{word}
 use Rattle.reasons.specs.Reasons.{faultWords}
 use Rattle.reasons.proofs.Said.{in-fault}
 use Rattle.reasons.proofs.words.fault_words.Statement.{statement}
@@ -81,23 +79,8 @@ of-line-requires-6 c κs = search needs
 enum-told-7 : tie.Need-enum-told-7
 enum-told-7 c = search needs
 
-slice-aggregate-of-line-7 : tie.Need-slice-aggregate-of-line-7
-slice-aggregate-of-line-7 c = search needs
-
-of-line-requires-7 : tie.Need-of-line-requires-7
-of-line-requires-7 c κs = search needs
-
-node-on-requires : tie.Need-node-on-requires
-node-on-requires c κs = search needs
-
-number-requires : tie.Need-number-requires
-number-requires c κs = search needs
-
-slice-aggregate-bytes-2 : tie.Need-slice-aggregate-bytes-2
-slice-aggregate-bytes-2 c = search needs
-
-bytes-requires-2 : tie.Need-bytes-requires-2
-bytes-requires-2 c κs = search needs
+not-next-words-requires : tie.Need-not-next-words-requires
+not-next-words-requires c κs = search needs
 
 same-length : tie.Need-same-length
 same-length c = search needs
@@ -153,7 +136,7 @@ same-length-8 c = search needs
 
 returns-8 : tie.Need-returns-8
 unfolding faultWords word
-returns-8 c = in-fault _ _ (c .before .before .before .before .before .before .before .before .before .before .before .before .before .before .before .enum-told7 .given .1) (write-both _ _ _ (write-both _ _ _ (c .before .before .before .before .before .before .before .before .before .before .before .before .of-line7 .ensures) ((c .before .before .before .before .before .before .before .number .ensures) ∙ ap (write _) (ap decimal (c .before .before .before .before .before .before .before .before .node-on .ensures)))) (c .before .before .bytes2 .ensures))
+returns-8 c = in-fault _ _ (c .before .before .before .before .enum-told7 .given .1) (c .before .before .not-next-words .ensures)
 
 pub fault-words-spec : {M : Type 1} → statement M
 fault-words-spec =
@@ -183,12 +166,7 @@ fault-words-spec =
     slice-aggregate-of-line-6
     of-line-requires-6
     enum-told-7
-    slice-aggregate-of-line-7
-    of-line-requires-7
-    node-on-requires
-    number-requires
-    slice-aggregate-bytes-2
-    bytes-requires-2
+    not-next-words-requires
     same-length
     returns
     same-length-2
