@@ -16,7 +16,7 @@ use std::sync::Mutex;
 const PROGRESS_EVERY: u64 = 5_000;
 
 /// A trial of so many files must have come upon everything that it can.
-const MANY: u64 = 20_000;
+const MANY: u64 = 8_000;
 
 /// What a program must make of a file.
 pub struct Task {
