@@ -19,9 +19,10 @@ use Rattle.nodes.proofs.Operations.{in_below}
 use Rattle.nodes.proofs.Inside.{inside_in, inside_trans}
 use Rattle.records.specs.declared.messages.Kind.{Kind}
 use Rattle.records.specs.declared.messages.Message.{Message}
+use Rattle.records.specs.declared.records.Record.{Record}
 use Rattle.records.specs.Rounds.{last_round, cannot_open}
-use Rattle.records.specs.Messages.{letter_of}
-use Rattle.records.specs.Records.{State, Fitting}
+use Rattle.records.specs.Messages.{Letter, letter_of}
+use Rattle.records.specs.Records.{Fitting, state_of}
 use Rattle.records.proofs.Fits.{record_fits}
 use Rattle.records.proofs.Among.{record_among}
 use Rattle.waits.specs.declared.numbers.Checked.{Checked}
@@ -30,12 +31,13 @@ use Rattle.waits.specs.Waits.{Waits}
 use Rattle.waits.specs.Rows.{waits_of, Shaped}
 use Rattle.waits.specs.Numbers.{check_of}
 use Rattle.waits.proofs.Table.{accepted_shaped}
-use Rattle.step.specs.Step.{Outcome, seen_in, open_round, receive}
+use Rattle.step.specs.Step.{Seen, Outcome, seen_in, open_round, receive}
 use Rattle.step.specs.Letters.{letters_of, how_many}
 use Rattle.step.specs.Sent.{to_whom}
+use Rattle.step.proofs.Said.{received_as}
 use Rattle.step.proofs.Among.{ToAmong}
 use Rattle.step.proofs.Letters.{letters_count}
-use Rattle.lent.specs.Kept.{record_size, state_at, put_state}
+use Rattle.lent.specs.Kept.{record_size, record_at, state_at, put_state}
 use Rattle.lent.specs.Coded.{message_of, number_of}
 use Rattle.bench.specs.declared.steps.Reply.{Reply}
 use Rattle.bench.specs.Bench.{Bench, After, bench, after, refusal, room_of, most_room}
@@ -50,9 +52,10 @@ use Rattle.bench.proofs.Keeping.{opened_fine, from_there, to_there, was_record, 
 abbrev pub NoneBelow : ℕ → ℕ → List ℕ → ℕ → Type 0
 NoneBelow n highest records i = any_below (λ j. strange_record_on n highest (state_at records j)) i ≡ false
 
-module _ (n highest : ℕ) (records : List ℕ) (i : ℕ) {s : State} {r : Bool} (e : s ≡ state_at records i) (f : r ≡ strange_record_on n highest s) where
+module _ (n highest : ℕ) (records : List ℕ) (i : ℕ) {x : Record} {r : Bool} (e : x ≡ record_at records i) (f : r ≡ strange_record_on n highest (state_of x)) where
   there : {b : Bool} → r ≡ b → strange_record_on n highest (state_at records i) ≡ b
-  there g = sym (f ∙ ap (strange_record_on n highest) e) ∙ g
+  unfolding state_at
+  there g = sym (f ∙ ap (λ (y : Record). strange_record_on n highest (state_of y)) e) ∙ g
 
   pub record_found : i < n → r ≡ true → true ≡ strange_records n highest records
   unfolding strange_records
@@ -134,7 +137,12 @@ module _ (records messages : List ℕ) (sent : ℕ) (highest : Round) (next i : 
       at_false _ (le-ltb (room_of (length messages)) (sent + length (letters_of i out.state.round out.sends)) (omega (arith, room, count)))
       (λ k. after (bench (e k) (f.1 k) ((f.0 ∙ ap (λ (z : ℕ). sent + z) (sym (letters_count i out.state.round out.sends))) k) next) out.answer)
 
--- ---- what a node does with message k
+-- ---- what a node does with its record in the list, and with message k
+pub arrived_as : (records : List ℕ) (i : ℕ) (m : Letter) {o p : Seen} {r : Record} {x : Outcome} → x ≡ receive o (state_of r) m → o ≡ p → r ≡ record_at records i
+    → x ≡ receive p (state_at records i) m
+unfolding state_at
+arrived_as records i m e f g = received_as m e f (ap state_of g)
+
 pub delivered_as : (w : Waits) (b : Bench) (k : ℕ) {m : Message} {x : After} → x ≡ arrive_at w b (letter_of m) → m ≡ message_of (get_or b.messages k 0)
     → x ≡ arrive_at w b (letter_of (message_of (get_or b.messages k 0)))
 delivered_as w b k e f = e ∙ ap (λ (m : Message). arrive_at w b (letter_of m)) f
@@ -185,12 +193,13 @@ module _ (n : ℕ) (rows : List ℕ) (b : Bench) (good : Good n rows b) where
   pub arrive_there : (m : Message) → strange_message_on n b.highest m ≡ false → (m.to.0 < n) × (m.to.0 * record_size + record_size ≤ length b.records)
   arrive_there m e = let h = to_there n rows b sound m e in (h, record_there n rows b sound m.to.0 h)
 
-  pub arrive_fits : (m : Message) {s : State} → strange_message_on n b.highest m ≡ false → s ≡ state_at b.records m.to.0
-      → (m.from.0 < places) × Fitting s
+  pub arrive_fits : (m : Message) {r : Record} → strange_message_on n b.highest m ≡ false → r ≡ record_at b.records m.to.0
+      → (m.from.0 < places) × Fitting (state_of r)
+  unfolding state_at
   arrive_fits m e q =
       let few : n ≤ places = (shaped n rows b sound).0 in
       let h = from_there n rows b sound m e in
-      (omega arith, subst Fitting (sym q) (record_fits n _ few (was_record n rows b sound m e)))
+      (omega arith, subst (λ (x : Record). Fitting (state_of x)) (sym q) (record_fits n _ few (was_record n rows b sound m e)))
 
   pub sent_there : (k : ℕ) {m : Message} → k < b.sent → m ≡ message_of (get_or b.messages k 0) → strange_message_on n b.highest m ≡ false
   sent_there k h e = ap (strange_message_on n b.highest) e ∙ sent_fine n rows b sound k h

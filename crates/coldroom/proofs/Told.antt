@@ -6,7 +6,8 @@ use Prim.Native.Nat.{ℕ, ◌≤◌}
 use lib.Seq.{sets}
 use Rattle.lemmas.proofs.Cases.{at_true, at_false}
 use Rattle.records.specs.declared.messages.Message.{Message}
-use Rattle.records.specs.Records.{State}
+use Rattle.records.specs.declared.records.Record.{Record}
+use Rattle.records.specs.Records.{state_of}
 use Rattle.waits.specs.declared.numbers.Refusal.{Refusal}
 use Rattle.waits.specs.declared.numbers.Checked.{Checked}
 use Rattle.waits.specs.declared.numbers.Checked.TheVariants.{Refused as Checked-as-Refused}
@@ -15,7 +16,7 @@ use Rattle.step.specs.declared.answers.Answer.TheVariants.{Refused}
 use Rattle.step.specs.Answers.{code_of}
 use Rattle.step.specs.Step.{Outcome}
 use Rattle.node.specs.Calls.{open_of, deliver_of}
-use Rattle.lent.specs.Kept.{state_at, put_state}
+use Rattle.lent.specs.Kept.{record_at, state_at, put_state}
 use Rattle.bench.specs.Bench.{Bench, After, after}
 use Rattle.bench.specs.Runs.{Run, run}
 use Rattle.coldroom.specs.Results.{plus, answer, ran}
@@ -45,23 +46,25 @@ left_as {kept = kept} {sends} {kept'} {sends'} {r} e p = subst (λ x. Leaves x k
 pub small_as : {out out' : Outcome} → out ≡ out' → SmallAnswer out'.answer → SmallAnswer out.answer
 small_as e p = subst (λ (x : Outcome). SmallAnswer x.answer) (sym e) p
 
-module _ (n me : ℕ) (row : List ℕ) (ins : ℕ) (kept : List ℕ) {out : Outcome} {s : State} where
-  pub opened_as : (round : ℕ) → out ≡ open_of n me row ins s round → s ≡ state_at kept 0 → out ≡ open_of n me row ins (state_at kept 0) round
-  opened_as round e f = e ∙ ap (λ (x : State). open_of n me row ins x round) f
+module _ (n me : ℕ) (row : List ℕ) (ins : ℕ) (kept : List ℕ) {out : Outcome} {r : Record} where
+  pub opened_as : (round : ℕ) → out ≡ open_of n me row ins (state_of r) round → r ≡ record_at kept 0 → out ≡ open_of n me row ins (state_at kept 0) round
+  unfolding state_at
+  opened_as round e f = e ∙ ap (λ (x : Record). open_of n me row ins (state_of x) round) f
 
-  pub delivered_as : (m : Message) → out ≡ deliver_of n me row ins s m → s ≡ state_at kept 0 → out ≡ deliver_of n me row ins (state_at kept 0) m
-  delivered_as m e f = e ∙ ap (λ (x : State). deliver_of n me row ins x m) f
+  pub delivered_as : (m : Message) → out ≡ deliver_of n me row ins (state_of r) m → r ≡ record_at kept 0 → out ≡ deliver_of n me row ins (state_at kept 0) m
+  unfolding state_at
+  delivered_as m e f = e ∙ ap (λ (x : Record). deliver_of n me row ins (state_of x) m) f
 
 -- ---- a bench
 pub step_left : {a : After} (b : Bench) (x : Answer) {r : ℕ} → after b x ≡ a → r ≡ answer x → StepLeaves a b r
-step_left b x e h = record { bench_after_lem = ap (λ (y : After). y.bench) e; result = h ∙ ap (λ (y : After). answer y.answer) e }
+step_left b x e h = record { bench_after = ap (λ (y : After). y.bench) e; result = h ∙ ap (λ (y : After). answer y.answer) e }
 
 pub small_step : {a : After} (b : Bench) (x : Answer) → after b x ≡ a → SmallAnswer a.answer → SmallAnswer x
 small_step b x e p = subst (λ (y : After). SmallAnswer y.answer) (sym e) p
 
 pub run_left : {a : Run} (b : Bench) (answers : List ℕ) (c d : Checked) {r : ℕ} → run b answers c ≡ a → c ≡ d → r ≡ ran d → RunLeaves a b answers r
 run_left b answers c d e f h = record {
-  bench_after_lem = ap (λ (y : Run). y.bench) e;
+  bench_after = ap (λ (y : Run). y.bench) e;
   answers_after = ap (λ (y : Run). y.answers) e;
   result = h ∙ ap ran (sym f) ∙ ap (λ (y : Run). ran y.checked) e;
 }

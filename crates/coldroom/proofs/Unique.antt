@@ -59,9 +59,9 @@ one_call out kept sends kept' kept'' sends' sends'' r s p q =
 
 -- ---- Laws: the calls of a bench
 pub one_step : (out : After) (b c : Bench) (r s : ℕ) → StepLeaves out b r → StepLeaves out c s → (b ≡ c) × (r ≡ s)
-one_step out b c r s p q = (only_one p.bench_after_lem q.bench_after_lem, only_one p.result q.result)
+one_step out b c r s p q = (only_one p.bench_after q.bench_after, only_one p.result q.result)
 
 pub one_run : (out : Run) (b c : Bench) (answers answers' : List ℕ) (r s : ℕ) → RunLeaves out b answers r → RunLeaves out c answers' s
     → (b ≡ c) × (answers ≡ answers') × (r ≡ s)
 one_run out b c answers answers' r s p q =
-    (only_one p.bench_after_lem q.bench_after_lem, only_one p.answers_after q.answers_after, only_one p.result q.result)
+    (only_one p.bench_after q.bench_after, only_one p.answers_after q.answers_after, only_one p.result q.result)

@@ -54,11 +54,11 @@ pub record Leaves (out : Outcome) (kept sends kept' sends' : List ℕ) (r : ℕ)
 
 -- a step of a bench
 pub record StepLeaves (out : After) (b : Bench) (r : ℕ) : Type 0 where
-  pub bench_after_lem : b ≡ out.bench
+  pub bench_after : b ≡ out.bench
   pub result : r ≡ answer out.answer
 
 -- a list of steps
 pub record RunLeaves (out : Run) (b : Bench) (answers : List ℕ) (r : ℕ) : Type 0 where
-  pub bench_after_lem : b ≡ out.bench
+  pub bench_after : b ≡ out.bench
   pub answers_after : answers ≡ out.answers
   pub result : r ≡ ran out.checked

@@ -73,11 +73,11 @@ module _ (w : Waits) (g : ℕ) where
   Foremost l k = (before : List ℕ) × (after : List ℕ) × (l ≡ before ++ k ∷ after) × (w.holds k g ≡ true) × Unsatisfied before
 
   first_member : (l : List ℕ) (k : Node) → (first_satisfied w g l ≡ MemberSatisfied k) ↔ Foremost l k.0
-  first_member l k = (there_is l, λ p. ap (first_satisfied w g) p.2 ∙ said p.0 p.1 p.3 p.4)
+  first_member l k = (there-is l, λ p. ap (first_satisfied w g) p.2 ∙ said p.0 p.1 p.3 p.4)
     where
-      there_is : (l : List ℕ) → first_satisfied w g l ≡ MemberSatisfied k → Foremost l k.0
-      there_is [] q = absurd (true≢false (cc q))
-      there_is (a ∷ l) q = by-head (w.holds a g) refl (there_is l) q
+      there-is : (l : List ℕ) → first_satisfied w g l ≡ MemberSatisfied k → Foremost l k.0
+      there-is [] q = absurd (true≢false (cc q))
+      there-is (a ∷ l) q = by-head (w.holds a g) refl (there-is l) q
         where
           by-head : (b : Bool) → w.holds a g ≡ b → (first_satisfied w g l ≡ MemberSatisfied k → Foremost l k.0)
               → cond b (MemberSatisfied (record { 0 = a })) (first_satisfied w g l) ≡ MemberSatisfied k → Foremost (a ∷ l) k.0
@@ -147,20 +147,20 @@ module _ (n : ℕ) (rows : List ℕ) (i : ℕ) (l : List ℕ) where
   -- Law: the answer is a refusal exactly if the list is refused with it;
   pub judged_refusal : (r : Refusal) → (judged_of n rows i l ≡ Judged-as-Refused r) ↔ (check_list_of n rows i l ≡ Refused r)
   unfolding judged_of
-  judged_refusal r = by_check (check_list_of n rows i l) (judgement (waits_of n rows) i l) (judgement_plain (waits_of n rows) i l r)
+  judged_refusal r = by-check (check_list_of n rows i l) (judgement (waits_of n rows) i l) (judgement_plain (waits_of n rows) i l r)
     where
-      by_check : (c : Checked) (x : Judged) → (x ≡ Judged-as-Refused r → ⊥) → (judged c x ≡ Judged-as-Refused r) ↔ (c ≡ Refused r)
-      by_check Accepted x plain = (λ e. absurd (plain e), λ e. absurd (refused_not_accepted (sym e)))
-      by_check (Refused t) x plain = (λ e. let same : t ≡ r = cc e in ap Refused same, λ e. let same : t ≡ r = cc e in ap Judged-as-Refused same)
+      by-check : (c : Checked) (x : Judged) → (x ≡ Judged-as-Refused r → ⊥) → (judged c x ≡ Judged-as-Refused r) ↔ (c ≡ Refused r)
+      by-check Accepted x plain = (λ e. absurd (plain e), λ e. absurd (refused_not_accepted (sym e)))
+      by-check (Refused t) x plain = (λ e. let same : t ≡ r = cc e in ap Refused same, λ e. let same : t ≡ r = cc e in ap Judged-as-Refused same)
 
   -- Law: and it is anything else exactly if the list isn't refused and that is what is said of it.
   pub judged_said : (y : Judged) → ((r : Refusal) → y ≡ Judged-as-Refused r → ⊥)
       → (judged_of n rows i l ≡ y) ↔ ((check_list_of n rows i l ≡ Accepted) × (judgement (waits_of n rows) i l ≡ y))
-  judged_said y plain = (by_check (check_list_of n rows i l) refl, λ p. sym (judged_as p.0) ∙ p.1)
+  judged_said y plain = (by-check (check_list_of n rows i l) refl, λ p. sym (judged_as p.0) ∙ p.1)
     where
-      by_check : (c : Checked) → check_list_of n rows i l ≡ c → judged_of n rows i l ≡ y → (check_list_of n rows i l ≡ Accepted) × (judgement (waits_of n rows) i l ≡ y)
-      by_check Accepted q e = (q, judged_as q ∙ e)
-      by_check (Refused t) q e = absurd (plain t (sym (judged_refused q ∙ e)))
+      by-check : (c : Checked) → check_list_of n rows i l ≡ c → judged_of n rows i l ≡ y → (check_list_of n rows i l ≡ Accepted) × (judgement (waits_of n rows) i l ≡ y)
+      by-check Accepted q e = (q, judged_as q ∙ e)
+      by-check (Refused t) q e = absurd (plain t (sym (judged_refused q ∙ e)))
 
   -- Law: the member that is named is a node of the graph.
   pub member_node : (k : Node) → judged_of n rows i l ≡ MemberSatisfied k → k.0 < n

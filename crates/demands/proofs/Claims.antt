@@ -1,26 +1,66 @@
--- What is said of claims and of lists beyond passing: the ring, and why a list fails. Assumes nothing.
-use mathlib.Core.Path.{◌≡◌, refl, sym, ◌∙◌}
-use mathlib.Core.Bool.{true, false, true≢false}
+-- The second demand: what meets a condition, and who is called deadlocked; with what is said of lists. Assumes nothing.
+use mathlib.Core.Path.{◌≡◌, refl, sym, ap, ◌∙◌}
+use mathlib.Core.Bool.{true, not, true≢false}
 use mathlib.Core.Logic.Iff
 use mathlib.Core.Logic.{◌↔◌}
-use mathlib.Core.List.{List, ◌∷◌, ◌++◌, Memᴰ}
-use Prim.Native.Nat.{ℕ}
-use Rattle.nodes.specs.declared.Node.{Node}
+use mathlib.Core.List.{List, Memᴰ}
+use Prim.Native.Nat.{ℕ, ◌≤◌}
+use lib.Dec.{eqb}
+use borrow.Author.Tests.{not-true, eqb-false, ne_eqb, leb-true, le-leb}
+use Rattle.lemmas.proofs.Tests.{and_intro, and_left, and_right}
+use Rattle.lemmas.proofs.Any.{any_some, some_any}
+use Rattle.nodes.specs.Sets.{Inside, meet, size}
+use Rattle.nodes.specs.Words.{num}
+use Rattle.nodes.proofs.Inside.{inside_of, of_inside}
 use Rattle.waits.specs.declared.numbers.Checked.TheVariants.{Accepted}
-use Rattle.waits.specs.Deadlocked.{Deadlocked, outside}
-use Rattle.waits.specs.Rows.{waits_of}
+use Rattle.waits.specs.Deadlocked.{Deadlocked}
+use Rattle.waits.specs.Rows.{row_at, sets_of, lies_in, waits_of}
+use Rattle.waits.proofs.Condition.{holds_0, holds_1, holds_2}
 use Rattle.waits.proofs.Table.{refused_not_accepted}
+use Rattle.deadlock.specs.declared.claims.Claim.{Claim}
+use Rattle.deadlock.specs.declared.claims.Claim.TheVariants.{Deadlocked as Claim-as-Deadlocked, NotDeadlocked as Claim-as-NotDeadlocked, Refused as Claim-as-Refused}
 use Rattle.deadlock.specs.declared.ring.Report.{Report}
 use Rattle.deadlock.specs.declared.ring.Report.TheVariants.{InRing, BehindRing, NotDeadlocked, Refused as Report-as-Refused}
-use Rattle.deadlock.specs.declared.evidence.Judged.TheVariants.{ClaimMissing, MemberSatisfied}
-use Rattle.deadlock.specs.Refusals.{check_node_of, check_list_of}
+use Rattle.deadlock.specs.Refusals.{check_node_of}
+use Rattle.deadlock.specs.Claims.{ClaimSays}
 use Rattle.deadlock.specs.Ring.{LeadsTo, ReportSays}
-use Rattle.deadlock.specs.Evidence.{judged_of}
-use Rattle.deadlock.proofs.Judging.{judgement_missing, judgement_member}
-use Rattle.demands.proofs.Offered.{answered}
+use Rattle.deadlock.proofs.Passing.{in_outside, passes_iff}
+use Rattle.deadlock.proofs.Judging.{judgement_missing, judgement_passes, judgement_member}
+use Rattle.deadlock.proofs.Offered.{written_accepted}
+use Rattle.deadlock.proofs.Answers.{to_ring}
+use Rattle.demands.specs.Demands.{Demand2}
+use Rattle.demands.proofs.Offered.{answered, set_listed, list_same, first_lowest, some_list}
 
 module _ (n : ℕ) (rows : List ℕ) (i : ℕ) where
-  -- ---- the ring
+  -- ---- the published rules
+  pub threshold_met : (g : ℕ) → (row_at rows i).kind ≡ 1 → ((waits_of n rows).holds i g ≡ true) ↔ ((row_at rows i).threshold ≤ size (meet (num (row_at rows i).first) g))
+  threshold_met g e = (
+    λ h. leb-true _ _ (sym (holds_1 (row_at rows i) g e) ∙ h),
+    λ h. holds_1 (row_at rows i) g e ∙ le-leb _ _ h,
+  )
+
+  pub set_met : (g : ℕ) → (row_at rows i).kind ≡ 2
+      → ((waits_of n rows).holds i g ≡ true) ↔ ((q : ℕ) × Memᴰ q (sets_of (row_at rows i)) × (q ≡ 0 → ⊥) × Inside q g)
+  unfolding lies_in
+  set_met g e = (
+    λ h.
+        let s = any_some (λ q. lies_in q g) (sets_of (row_at rows i)) (sym (holds_2 (row_at rows i) g e) ∙ h) in (
+          s.0,
+          s.1,
+          eqb-false s.0 0 (not-true _ (and_left (not (eqb s.0 0)) _ s.2)),
+          inside_of s.0 g (and_right (not (eqb s.0 0)) _ s.2),
+        ),
+    λ s.
+        holds_2 (row_at rows i) g e
+        ∙ some_any (λ q. lies_in q g) (sets_of (row_at rows i)) s.0 s.1 (and_intro _ _ (ap not (ne_eqb s.0 0 s.2)) (of_inside s.0 g s.3)),
+  )
+
+  -- ---- claims
+  pub claim_right : check_node_of n rows i ≡ Accepted → (c : Claim) → ClaimSays n rows i c → (c ≡ Claim-as-Deadlocked) ↔ Deadlocked (waits_of n rows) i
+  claim_right ok Claim-as-Deadlocked s = (λ e. s.1, λ d. refl)
+  claim_right ok Claim-as-NotDeadlocked s = (λ e. absurd (true≢false (cc e)), λ d. absurd (s.1 d))
+  claim_right ok (Claim-as-Refused r) s = absurd (refused_not_accepted (sym s ∙ ok))
+
   pub ring_right : check_node_of n rows i ≡ Accepted → (x : Report) → ReportSays n rows i x → (x ≡ NotDeadlocked) ↔ (Deadlocked (waits_of n rows) i → ⊥)
   ring_right ok InRing s = (λ e. absurd (true≢false (cc e)), λ d. absurd (d s.1))
   ring_right ok BehindRing s = (λ e. absurd (true≢false (cc e)), λ d. absurd (d s.1))
@@ -33,13 +73,24 @@ module _ (n : ℕ) (rows : List ℕ) (i : ℕ) where
   ring_exactly ok d NotDeadlocked s = absurd (s.1 d)
   ring_exactly ok d (Report-as-Refused r) s = absurd (refused_not_accepted (sym s ∙ ok))
 
-  -- ---- lists that aren't refused
-  module _ (l : List ℕ) (ok : check_list_of n rows i l ≡ Accepted) where
-    pub claim_missing : (judged_of n rows i l ≡ ClaimMissing) ↔ (Memᴰ i l → ⊥)
-    claim_missing = Iff.trans (answered n rows i l ok) (judgement_missing (waits_of n rows) i l)
-
-    pub member_satisfied : (k : Node) → (judged_of n rows i l ≡ MemberSatisfied k)
-        ↔ (Memᴰ i l
-        × ((before : List ℕ) × (after : List ℕ) × (l ≡ before ++ k.0 ∷ after) × ((waits_of n rows).holds k.0 (outside (waits_of n rows) l) ≡ true)
-        × ((j : ℕ) → Memᴰ j before → (waits_of n rows).holds j (outside (waits_of n rows) l) ≡ false)))
-    member_satisfied k = Iff.trans (answered n rows i l ok) (judgement_member (waits_of n rows) i l k)
+-- Theorem: the second demand, each field by itself.
+pub demand_2 : (n : ℕ) (rows : List ℕ) (i : ℕ) → Demand2 n rows i
+demand_2 n rows i = record {
+  active = λ g e. holds_0 (row_at rows i) g e;
+  p_of_q = threshold_met n rows i;
+  and_or = set_met n rows i;
+  all = λ s says. says.1 i;
+  claim = claim_right n rows i;
+  ring = ring_right n rows i;
+  in_ring = ring_exactly n rows i;
+  to_ring = to_ring n rows i;
+  list = λ l ok. Iff.trans (answered n rows i l ok) (Iff.trans (judgement_passes (waits_of n rows) i l) (passes_iff (waits_of n rows) i l));
+  those_outside = in_outside (waits_of n rows);
+  claim_missing = λ l ok. Iff.trans (answered n rows i l ok) (judgement_missing (waits_of n rows) i l);
+  member_satisfied = λ l ok k. Iff.trans (answered n rows i l ok) (judgement_member (waits_of n rows) i l k);
+  as_set_lem = set_listed n rows i;
+  one_list = list_same n rows i;
+  lowest = first_lowest n rows i;
+  written_accepted = written_accepted n rows i;
+  link = some_list n rows i;
+}

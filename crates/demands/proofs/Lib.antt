@@ -1,5 +1,7 @@
--- What the demands rest on, all controllers together, the same end of two runs, and the table of the small mornings, proved.
+-- The demands, all controllers together, the same end of two runs, and the table of the small mornings, proved.
 pub mod Said
+pub mod Asked
+pub mod Refused
 pub mod Offered
 pub mod Claims
 pub mod Stands
@@ -18,7 +20,7 @@ pub mod Alone
 pub mod Controllers
 pub mod AtWork
 pub mod AtOnce
-pub mod Worked
+pub mod Demands
 pub mod SameEnd
 pub mod SuchRuns
 pub mod TwoOrders

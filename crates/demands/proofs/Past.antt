@@ -23,7 +23,7 @@ use Rattle.rounds.specs.History.{Event, Opened as History-as-Opened}
 use Rattle.rounds.proofs.Told.{events_apart}
 use Rattle.demands.specs.Turns.{Turn, turns, after_steps, accepted, opening, event_of, heard, Opened, Arrived}
 use Rattle.demands.specs.Refusals.{step_lines}
-use Rattle.demands.proofs.Said.{would_send, says_accepted, step_says}
+use Rattle.demands.proofs.Said.{says_accepted, step_says}
 use Rattle.demands.proofs.Heard.{turn_kept, turn_gave, turn_heard, heard_turn}
 
 -- ---- events
@@ -70,12 +70,12 @@ module _ (n : ℕ) (rows messages : List ℕ) (steps : List Step) where
   was_sent t i e f =
       let x = t.step in
       let b = t.on in
-      let said = says_accepted b (step_on n rows b x) (first_said (step_lines n rows b x (would_send n rows b x))) (step_says b n rows x)
+      let said = says_accepted b (step_on n rows b x) (first_said (step_lines n rows b x)) (step_says b n rows x)
       (ap (λ (a : After). accepted a.answer) (sym (turn_gave n rows (fresh n messages) steps t i)) ∙ f) in
       leb-false b.sent x.a
       (and_rest (leb b.sent x.a) (eq-eqb x.kind 1 e)
       (or_left_false (eqb x.kind 1 && leb b.sent x.a) _
-      (accepted_silent (step_lines n rows b x (would_send n rows b x)) said (line 11 0 _) (there (there (there (here refl)))))))
+      (accepted_silent (step_lines n rows b x) said (line 11 0 _) (there (there (there (here refl)))))))
 
   -- Theorem: a message that was delivered, and not refused, arrived in the history, whatever was sent after it.
   pub arrived_heard : check_of n rows ≡ Accepted → (k : ℕ) → Arrived past k

@@ -23,12 +23,13 @@ use Rattle.rounds.specs.Ends.{FreedFrom, leaving, entering}
 use Rattle.rounds.specs.History.{since}
 use Rattle.rounds.proofs.Verdicts.{one_right}
 use Rattle.demands.specs.Turns.{heard, Opened, AllArrived, verdicts_given, messages_of, called_on, free_on}
+use Rattle.demands.specs.Demands.{Demand3}
 use Rattle.demands.specs.SameEnd.{Log, now, past, OneRoundFrom, SameEnd, WhateverTheOrder}
 use Rattle.demands.proofs.Stands.{sent_count}
 use Rattle.demands.proofs.Past.{heard_opened}
 use Rattle.demands.proofs.Shown.{round_count}
-use Rattle.demands.proofs.Rounds.{stands, rules, ends, called_reachable, free_freed}
-use Rattle.demands.proofs.Worked as Worked
+use Rattle.demands.proofs.Rounds.{stands, rules, called_reachable, free_freed}
+use Rattle.demands.proofs.Demands.{demand_3}
 
 module _ (n : ℕ) (rows : List ℕ) (ok : check_of n rows ≡ Accepted) (s : ℕ) where
   abbrev w : Waits
@@ -47,14 +48,17 @@ module _ (n : ℕ) (rows : List ℕ) (ok : check_of n rows ≡ Accepted) (s : �
     pub count : length (messages_of (round a) (now n rows a)) ≡ 2 * leaving w (called_on n (now n rows a)) + 2 * entering w (free_on n (now n rows a))
 
   module _ (a : Log) where
+    third : Demand3 n rows a.messages a.steps
+    third = demand_3 n rows a.messages a.steps ok
+
     -- Theorem: it ends so, if every message of it has arrived.
     pub end : Opened (past n rows a) s (round a) → AllArrived (round a) (now n rows a) (past n rows a) → End a
     end opened arrived =
-        let (v, e, right) = ends n rows a.messages a.steps ok s opened arrived in
+        let (v, e, right) = third.ends s opened arrived in
         let gave = subst (λ (x : List Verdict). Memᴰ v x) (sym e) (here refl) in
         let called = called_reachable n rows a.messages a.steps ok s opened v gave in
         let free = free_freed n rows a.messages a.steps ok s opened v gave in
-        let (reachable, freed, r, f, c) = Worked.count_exactly n rows a.messages a.steps ok s (round a) v opened gave in
+        let (reachable, freed, r, f, c) = third.count_exactly s (round a) v opened gave in
         record {
           verdict = v;
           said = e;
@@ -67,8 +71,8 @@ module _ (n : ℕ) (rows : List ℕ) (ok : check_of n rows ≡ Accepted) (s : �
     -- ---- a run of one round: every message is of that round
     module _ (p : ℕ) (one : OneRoundFrom n rows s a p) where
       newest : round a ≡ p
-      newest = elim (Worked.newest n rows a.messages a.steps ok) [
-        | inl e ↦ let h = Worked.higher n rows a.messages a.steps ok s p one.opened in omega arith
+      newest = elim third.newest [
+        | inl e ↦ let h = third.higher s p one.opened in omega arith
         | inr o ↦ one.no_other o.0 (round a) o.1
       ]
 

@@ -10,6 +10,7 @@ use native.Mathlib.Nat.{not-suc-le-zero, le_of_suc-le-suc}
 use native.Mathlib.Omega.{arith}
 use lib.ListN.{length, get_or, take, replicate, length-replicate, length-map}
 use lib.Seq.{length-take-le, get_or-take}
+use Rattle.nodes.specs.Words.{num}
 use Rattle.records.specs.Messages.{Letter, letter_of}
 use Rattle.records.specs.Records.{State, blank_of}
 use Rattle.records.specs.Causes.{why_of}
@@ -19,7 +20,7 @@ use Rattle.waits.specs.declared.numbers.Checked.TheVariants.{Accepted}
 use Rattle.waits.specs.Rows.{waits_of}
 use Rattle.waits.specs.Numbers.{check_of}
 use Rattle.waits.proofs.Lawful.{accepted_lawful}
-use Rattle.lent.specs.Kept.{record_size, state_at}
+use Rattle.lent.specs.Kept.{record_size, record_at, state_at}
 use Rattle.lent.specs.Coded.{message_of, number_of}
 use Rattle.lent.proofs.Back.{letter_back}
 use Rattle.bench.specs.Bench.{Bench, fresh}
@@ -45,7 +46,7 @@ zero_at (suc k) zero = refl
 zero_at (suc k) (suc j) = zero_at k j
 
 blank_at : (k i : ℕ) → state_at (replicate k 0) i ≡ blank_of 0
-unfolding state_at
+unfolding state_at record_at num
 blank_at k i = λ j. record {
   round = zero_at k (i * record_size) j;
   call = why_of (zero_at k (i * record_size + 1) j);

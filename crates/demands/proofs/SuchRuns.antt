@@ -19,10 +19,11 @@ use Rattle.lent.specs.declared.steps.Step.{Step}
 use Rattle.bench.specs.Bench.{Bench, fresh, room_of}
 use Rattle.rounds.specs.History.{openings}
 use Rattle.demands.specs.Turns.{Turn, turn, turns, accepted, opening, event_of, heard, Opened, CanAllArrive}
+use Rattle.demands.specs.Demands.{Demand3}
 use Rattle.demands.specs.SameEnd.{OneRoundFrom, ThereAreSuchRuns}
-use Rattle.demands.proofs.Rounds.{stands, room_enough}
-use Rattle.demands.proofs.Arriving.{step_places, can_arrive as all_can_arrive}
-use Rattle.demands.proofs.Worked as Worked
+use Rattle.demands.proofs.Rounds.{stands}
+use Rattle.demands.proofs.Arriving.{step_places}
+use Rattle.demands.proofs.Demands.{demand_3}
 
 -- ---- the turns of a list of steps
 module _ (n : ℕ) (rows : List ℕ) (b : Bench) where
@@ -44,6 +45,9 @@ module _ (n : ℕ) (rows : List ℕ) (ok : check_of n rows ≡ Accepted) (s roun
   abbrev opens : Turn
   opens = turn n rows start (opening s round)
 
+  third : (steps : List Step) → Demand3 n rows messages steps
+  third steps = demand_3 n rows messages steps ok
+
   -- ---- the round is opened, and there is room for it
   one_opened : openings (event_of opens ∷ []) ≡ 1
   unfolding event_of
@@ -53,13 +57,13 @@ module _ (n : ℕ) (rows : List ℕ) (ok : check_of n rows ≡ Accepted) (s roun
   room_for_one k e = subst (λ (x : ℕ). 4 * edges (waits_of n rows) * x ≤ room_of (length messages)) (sym e) (omega (arith, enough))
 
   takes : accepted opens.gave.answer ≡ true
-  takes = elim (Worked.opens n rows messages [] ok s round node range) [
+  takes = elim ((third []).opens s round node range) [
     | inl e ↦ e
-    | inr e ↦ absurd (room_enough n rows messages [] ok (opening s round) (room_for_one _ one_opened) e)
+    | inr e ↦ absurd ((third []).room_enough (opening s round) (room_for_one _ one_opened) e)
   ]
 
   can_arrive : CanAllArrive n rows start (opening s round ∷ [])
-  can_arrive = all_can_arrive n rows messages ok (opening s round ∷ [])
+  can_arrive = (third (opening s round ∷ [])).can_arrive
       (subst (λ (x : ℕ). 4 * edges (waits_of n rows) * openings (heard (opens ∷ [])) ≤ room_of x)
       (sym (step_places n rows start (stands n rows messages [] ok).good (opening s round)))
       (room_for_one _ (ap (λ (t : Bool). openings (cond t (event_of opens ∷ []) [])) takes ∙ one_opened)))

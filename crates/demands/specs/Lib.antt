@@ -1,7 +1,8 @@
--- A bench step by step and when a step is refused, one controller and all of them, two runs of one round, and the small mornings.
+-- What was demanded and what was asked for later, all controllers together, and the small mornings in one table.
 pub mod Turns
 pub mod Refusals
 pub mod Alone
 pub mod Controllers
+pub mod Demands
 pub mod SameEnd
 pub mod Table

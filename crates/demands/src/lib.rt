@@ -1,2 +1,2 @@
-// No function: a bench worked step by step, its controllers by themselves and together, that two runs end alike, and the small mornings, as
-// statements over the definitions of the other crates, in specs/, and proved, in proofs/. The demands themselves are said in ../shipped.
+// No function: the three demands, and that two runs end alike, as statements over the definitions of the other crates, in specs/, and
+// proved, in proofs/.

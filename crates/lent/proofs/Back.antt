@@ -9,6 +9,7 @@ use lib.Dec.{lit<}
 use lib.ListN.{length, get_or}
 use lib.Seq.{sets, length-sets}
 use Rattle.lemmas.proofs.Stores.{sets_before, sets_after, sets_at, sets_same}
+use Rattle.nodes.specs.Words.{num}
 use Rattle.records.specs.declared.causes.Why.{Why}
 use Rattle.records.specs.declared.causes.Why.TheVariants.{Not, Itself, By}
 use Rattle.records.specs.declared.messages.Kind.{Kind}
@@ -17,7 +18,7 @@ use Rattle.records.specs.Causes.{why_of, cause_number}
 use Rattle.records.specs.Messages.{Letter, kind_of, kind_number, letter_of}
 use Rattle.records.specs.Records.{State}
 use Rattle.records.proofs.Unique.{numbered}
-use Rattle.lent.specs.Kept.{record_size, state_at, state_numbers, put_state}
+use Rattle.lent.specs.Kept.{record_size, record_at, state_at, state_numbers, put_state}
 use Rattle.lent.specs.Coded.{message_of, number_of}
 use Rattle.lent.specs.Steps.{step_number, step_of}
 use Rattle.lent.proofs.Letters.{kind_number_le}
@@ -35,7 +36,7 @@ module _ (records : List ℕ) (i j : ℕ) (s : State) (h : (i < j) ⊎ (j < i)) 
   kept_first = rw add-zero at (kept 0 (lit< tt))
 
   pub record_kept : state_at (put_state records i s) j ≡ state_at records j
-  unfolding state_at put_state
+  unfolding state_at record_at put_state
   record_kept = rw (kept_first, kept 1 (lit< tt), kept 2 (lit< tt), kept 3 (lit< tt), kept 4 (lit< tt), kept 5 (lit< tt), kept 6 (lit< tt))
 
 pub length_put : (records : List ℕ) (i : ℕ) (s : State) → length (put_state records i s) ≡ length records
@@ -55,7 +56,7 @@ module _ (records : List ℕ) (i : ℕ) (s : State) (h : i * record_size + recor
   first = rw add-zero at (there 0 (lit< tt))
 
   pub record_back : state_at (put_state records i s) i ≡ s
-  unfolding state_at put_state
+  unfolding state_at record_at put_state num
   record_back = λ k. record {
     round = first k;
     call = (ap why_of (there 1 (lit< tt)) ∙ cause_back s.call) k;
@@ -69,7 +70,7 @@ module _ (records : List ℕ) (i : ℕ) (s : State) (h : i * record_size + recor
 -- a record that is put where it stands changes nothing
 module _ (records : List ℕ) (i : ℕ) where
   stands : (j : ℕ) → j < record_size → get_or (state_numbers (state_at records i)) j 0 ≡ get_or records (i * record_size + j) 0
-  unfolding state_at
+  unfolding state_at record_at num
   stands zero h = ap (λ (k : ℕ). get_or records k 0) (sym (add-zero (i * record_size)))
   stands (suc zero) h = numbered (get_or records (i * record_size + 1) 0)
   stands (suc (suc zero)) h = numbered (get_or records (i * record_size + 2) 0)

@@ -1,7 +1,7 @@
 // Records in a lent list: seven numbers a node.
 ghost use Rattle.std.specs.Prelude.{◌≡◌, ◌+◌, ◌*◌, ◌≤◌, length, replicate};
 ghost use Rattle.records.specs.Records.{state_of};
-ghost use Rattle.lent.specs.Kept.{record_size, most_records, record_numbers, state_at, put_state};
+ghost use Rattle.lent.specs.Kept.{record_size, most_records, record_numbers, record_at, put_state};
 
 use nodes::{Node, PLACES, Round, Set};
 use records::{Cause, Record};
@@ -32,7 +32,7 @@ pub fn record_numbers(nodes: usize) -> usize
 // The record of node i.
 pub fn record_at(records: &[u64], i: Node) -> Record
     requires { i.0 * record_size + record_size ≤ length records.now }
-    ensures { state_of result ≡ state_at records.now i.0 }
+    ensures { result ≡ record_at records.now i.0 }
 {
     let at = i.0 * RECORD;
     Record {

@@ -1,5 +1,6 @@
 -- The table's order for one controller, and what isn't refused. Assumes nothing.
 use mathlib.Core.Path.{◌≡◌, refl, ap, ◌∙◌}
+use mathlib.Core.Logic.{◌↔◌}
 use mathlib.Core.Bool.{false}
 use mathlib.Core.List.{List}
 use mathlib.Core.List.Memᴰ.{head as here}
@@ -22,11 +23,11 @@ use Rattle.waits.specs.declared.numbers.Refusal.{Refusal}
 use Rattle.waits.specs.declared.numbers.Checked.{Checked}
 use Rattle.waits.specs.declared.numbers.Checked.TheVariants.{Accepted, Refused}
 use Rattle.waits.specs.Rows.{row_size, row_at}
-use Rattle.waits.specs.Numbers.{line, strange_count, check_row_of}
+use Rattle.waits.specs.Numbers.{line, strange_count, check_row_of, Gives}
 use Rattle.waits.proofs.Cases.{count_fits}
-use Rattle.waits.proofs.Table.{accepted_silent, Fine, fine}
+use Rattle.waits.proofs.Table.{accepted_silent, refused_iff, Fine, fine}
 use Rattle.waits.proofs.Next.{Next, next, refused_before, next_accepted}
-use Rattle.node.specs.Refusals.{wrong_own, strange_kept, own_lines, kept_lines, check_own_of, check_kept_of, check_open_of, check_deliver_of}
+use Rattle.node.specs.Refusals.{wrong_own, strange_kept, own_lines, kept_lines, open_lines, deliver_lines, check_own_of, check_kept_of, check_open_of, check_deliver_of}
 
 -- what a right count says
 pub right_own : (n numbers : ℕ) → wrong_own n numbers ≡ false → (n ≤ places) × (numbers ≡ row_size)
@@ -64,6 +65,14 @@ module _ (n me : ℕ) (row : List ℕ) where
     deliver_refused m = refused_before (line 13 0 (strange_message n m)) (deliver_next m)
 
     -- Theorems: each number is given exactly when its line says so and no earlier one does.
+    pub opening_refused : (round : ℕ) (r : Refusal) → (check_open_of n me row ins s round ≡ Refused r) ↔ Gives (open_lines n me row ins s round) r
+    unfolding check_open_of
+    opening_refused round r = refused_iff (open_lines n me row ins s round) r
+
+    pub delivery_refused : (m : Message) (r : Refusal) → (check_deliver_of n me row ins s m ≡ Refused r) ↔ Gives (deliver_lines n me row ins s m) r
+    unfolding check_deliver_of
+    delivery_refused m r = refused_iff (deliver_lines n me row ins s m) r
+
     -- what isn't refused: few enough nodes, six row numbers, and a record that names nodes
     kept_accepted : check_kept_of n me row ins s ≡ Accepted → (n ≤ places) × (length row ≡ row_size) × Fitting s
     unfolding strange_kept

@@ -7,17 +7,33 @@ use native.Mathlib.Omega.{arith}
 use lib.Dec.{eqb, ltb}
 use borrow.Author.Tests.{not-false, lt-ltb, ltb-true, ltb-false, le-ltb, eqb-false, ne_eqb}
 use Rattle.lemmas.proofs.Tests.{or_left_false, or_right_false}
-use Rattle.records.specs.Rounds.{last_round, behind, ahead, no_round, cannot_open}
+use Rattle.records.specs.declared.rounds.Compared.TheVariants.{Behind, Same, Ahead}
+use Rattle.records.specs.Rounds.{last_round, compare_of, is_behind, is_ahead, behind, ahead, no_round, cannot_open}
 use Rattle.records.specs.Records.{State, blank_of, in_round}
 
--- a round is ahead exactly if it is the higher one, and behind exactly if it is the lower one
-higher : (round own : ℕ) → ahead round own ≡ ltb own round
-unfolding ahead
-higher round own = refl
+-- a round is ahead exactly if it is the higher one
+by_test : (round own : ℕ) (p : Bool) → ltb round own ≡ p → ahead round own ≡ ltb own round
+unfolding ahead compare_of
+by_test round own true e =
+    ap (λ (b : Bool). is_ahead (cond b Behind (cond (ltb own round) Ahead Same))) e ∙ (let h = ltb-true round own e in rw (le-ltb own round (omega arith)) refl)
+by_test round own false e = ap (λ (b : Bool). is_ahead (cond b Behind (cond (ltb own round) Ahead Same))) e ∙ other (ltb own round)
+  where
+    other : (b : Bool) → is_ahead (cond b Ahead Same) ≡ b
+    other true = refl
+    other false = refl
 
+higher : (round own : ℕ) → ahead round own ≡ ltb own round
+higher round own = by_test round own (ltb round own) refl
+
+-- and behind exactly if it is the lower one
 lower : (round own : ℕ) → behind round own ≡ ltb round own
-unfolding behind ahead
-lower round own = refl
+unfolding behind compare_of
+lower round own = go (ltb round own) (ltb own round)
+  where
+    go : (p q : Bool) → is_behind (cond p Behind (cond q Ahead Same)) ≡ p
+    go true q = refl
+    go false true = refl
+    go false false = refl
 
 -- Theorem: rounds are compared as numbers.
 pub behind_iff : (round own : ℕ) → (behind round own ≡ true) ↔ (round < own)

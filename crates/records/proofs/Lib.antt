@@ -3,7 +3,6 @@ pub mod Views
 pub mod Among
 pub mod Fits
 pub mod Unique
-pub mod Compared
 pub mod Higher
 pub mod Marks
 pub mod Open

@@ -1,5 +1,5 @@
 -- Rounds: which there are, and how two of them are compared. Assumes nothing.
-use Rattle.std.specs.Prelude.{Bool, cond, not, ◌||◌, ℕ, ltb, eqb}
+use Rattle.std.specs.Prelude.{Bool, true, false, cond, not, ◌||◌, ℕ, ltb, eqb}
 use Rattle.records.specs.declared.rounds.Compared.{Compared}
 use Rattle.records.specs.declared.rounds.Compared.TheVariants.{Behind, Same, Ahead}
 
@@ -7,16 +7,25 @@ use Rattle.records.specs.declared.rounds.Compared.TheVariants.{Behind, Same, Ahe
 abbrev pub last_round : ℕ
 last_round = 65535
 
--- a round is newer than a record's: no other definition says which of two rounds is the newer
-unfoldable pub ahead : ℕ → ℕ → Bool
-ahead round own = ltb own round
+-- how a round stands to a record's: no other definition says which of two rounds is the older
+unfoldable pub compare_of : ℕ → ℕ → Compared
+compare_of round own = cond (ltb round own) Behind (cond (ltb own round) Ahead Same)
+
+abbrev pub is_behind : Compared → Bool
+is_behind Behind = true
+is_behind Same = false
+is_behind Ahead = false
+
+abbrev pub is_ahead : Compared → Bool
+is_ahead Behind = false
+is_ahead Same = false
+is_ahead Ahead = true
 
 unfoldable pub behind : ℕ → ℕ → Bool
-behind round own = ahead own round
+behind round own = is_behind (compare_of round own)
 
--- how a round stands to a record's
-unfoldable pub compare_of : ℕ → ℕ → Compared
-compare_of round own = cond (behind round own) Behind (cond (ahead round own) Ahead Same)
+unfoldable pub ahead : ℕ → ℕ → Bool
+ahead round own = is_ahead (compare_of round own)
 
 -- no round has this number
 unfoldable pub no_round : ℕ → Bool

@@ -3,7 +3,7 @@ use mathlib.Core.Path.{◌≡◌, refl, sym, ap, ap₂, ◌∙◌}
 use mathlib.Core.Bool.{Bool, true, false, not, ◌&&◌, ◌||◌}
 use mathlib.Core.Logic.{⊎_elim}
 use mathlib.Core.List.{List, [], ◌∷◌}
-use Prim.Native.Nat.{ℕ, zero, suc, ◌+◌, ◌*◌, ◌≤◌, ◌<◌}
+use Prim.Native.Nat.{ℕ, ◌+◌, ◌*◌, ◌≤◌, ◌<◌}
 use native.Mathlib.Numerals.{add-one}
 use lib.Dec.{leb, ltb, eqb}
 use borrow.Author.Tests.{le-leb, lt-leb, lt-ltb, le-ltb, leb-true, leb-false, ltb-false, eqb-true, not-false}
@@ -13,7 +13,7 @@ use Rattle.nodes.specs.Words.{places}
 use Rattle.waits.specs.declared.rows.Row.{Row}
 use Rattle.waits.specs.declared.numbers.Checked.{Checked}
 use Rattle.waits.specs.Waits.{Waits, edges_to, edges}
-use Rattle.waits.specs.Rows.{row_size, row_at, out_of, edges_in, lies_in, waits_of}
+use Rattle.waits.specs.Rows.{row_size, row_at, out_of, lies_in, waits_of}
 use Rattle.waits.specs.Numbers.{most_edges, strange_count, wrong_count, strange_member, waits_on_itself, nested, many_edges, check_row_of}
 
 -- what a count that isn't strange says, and a right one
@@ -83,23 +83,13 @@ pub edges_suc : (w : Waits) (k : ℕ) → edges_to w (k + 1) ≡ edges_to w k + 
 unfolding edges_to
 edges_suc w k = rw (add-one k)
 
--- the waits of n rows are the edges of their graph
-counted : (n : ℕ) (rows : List ℕ) (k : ℕ) → edges_to (waits_of n rows) k ≡ edges_in rows k
-unfolding edges_to edges_in
-counted n rows zero = refl
-counted n rows (suc k) = ap (λ (e : ℕ). e + size (out_of (row_at rows k))) (counted n rows k)
-
-pub edges_in_lem : (n : ℕ) (rows : List ℕ) → edges (waits_of n rows) ≡ edges_in rows n
-unfolding edges
-edges_in_lem n rows = counted n rows n
-
 pub many : (n : ℕ) (rows : List ℕ) {e : ℕ} → e ≡ edges (waits_of n rows) → most_edges < e → many_edges n rows ≡ true
 unfolding many_edges
-many n rows q h = ap (ltb most_edges) (sym (q ∙ edges_in_lem n rows)) ∙ lt-ltb _ _ h
+many n rows q h = ap (ltb most_edges) (sym q) ∙ lt-ltb _ _ h
 
 pub few : (n : ℕ) (rows : List ℕ) {e : ℕ} → e ≡ edges (waits_of n rows) → e ≤ most_edges → many_edges n rows ≡ false
 unfolding many_edges
-few n rows q h = ap (ltb most_edges) (sym (q ∙ edges_in_lem n rows)) ∙ le-ltb _ _ h
+few n rows q h = ap (ltb most_edges) (sym q) ∙ le-ltb _ _ h
 
 -- what the check of row k answered
 pub row_answer : (n k : ℕ) (rows : List ℕ) {row : Row} {r x : Checked} → r ≡ check_row_of n k row → row ≡ row_at rows k → r ≡ x

@@ -9,7 +9,8 @@ use Rattle.waits.specs.declared.rows.Row.{Row}
 use Rattle.waits.specs.declared.numbers.Refusal.{Refusal}
 use Rattle.waits.specs.declared.numbers.Checked.{Checked}
 use Rattle.waits.specs.declared.numbers.Checked.TheVariants.{Accepted, Refused}
-use Rattle.waits.specs.Rows.{row_size, row_at, sets_of, later_of, out_of, edges_in, lies_in}
+use Rattle.waits.specs.Waits.{edges}
+use Rattle.waits.specs.Rows.{row_size, row_at, sets_of, later_of, out_of, lies_in, waits_of}
 
 -- the most edges that a graph may have
 abbrev pub most_edges : ℕ
@@ -60,7 +61,7 @@ bad_sets r = eqb r.kind 2 && (eqb (out_of r) 0 || nested (sets_of r))
 
 -- 8: there are too many edges
 unfoldable pub many_edges : ℕ → List ℕ → Bool
-many_edges n rows = ltb most_edges (edges_in rows n)
+many_edges n rows = ltb most_edges (edges (waits_of n rows))
 
 -- A line of the table: its refusal, and whether it says that this one is given.
 pub record Line : Type 0 where

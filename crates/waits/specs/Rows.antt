@@ -48,11 +48,6 @@ later_of r = union (num r.second) (union (num r.third) (num r.fourth))
 unfoldable pub out_of : Row → ℕ
 out_of r = union (num r.first) (later_of r)
 
--- how many waits the rows below k have: the members of their OUT
-unfoldable pub edges_in : List ℕ → ℕ → ℕ
-edges_in rows zero = 0
-edges_in rows (suc k) = edges_in rows k + size (out_of (row_at rows k))
-
 -- q has a member, and all its members are in g
 unfoldable pub lies_in : ℕ → ℕ → Bool
 lies_in q g = not (eqb q 0) && inside q g

@@ -18,8 +18,8 @@ use Rattle.nodes.proofs.Members.{members_in}
 use Rattle.nodes.proofs.Size.{size_members, size_le, size_mono}
 use Rattle.waits.specs.declared.rows.Row.{Row}
 use Rattle.waits.specs.declared.numbers.Checked.TheVariants.{Accepted}
-use Rattle.waits.specs.Waits.{Waits}
-use Rattle.waits.specs.Rows.{row_at, sets_of, out_of, edges_in, rows_at, rows_of, waits_of}
+use Rattle.waits.specs.Waits.{Waits, edges_to, edges}
+use Rattle.waits.specs.Rows.{row_at, sets_of, out_of, rows_at, rows_of, waits_of}
 use Rattle.waits.specs.Numbers.{most_edges, line, strange_kind, wrong_threshold, many_edges, rows_lines, check_of}
 use Rattle.waits.proofs.Table.{check_accepted, accepted_shaped, accepted_row}
 use Rattle.waits.proofs.Condition.{out_set}
@@ -117,9 +117,9 @@ module _ (n : ℕ) (rows : List ℕ) (ok : check_of n rows ≡ Accepted) where
       let threshold = threshold_most r fine.threshold in
       row_length k r (λ j i. let l = law.closed k j h i in omega (arith, few)) (omega (arith, few)) (omega arith) (omega (arith, few))
 
-  lines_length : (m k : ℕ) → k + m ≤ n → length (ended (row_texts k (rows_at rows k m))) + 12 * edges_in rows k ≤ 14 * m + 12 * edges_in rows (k + m)
-  unfolding ended row_texts rows_at edges_in
-  lines_length zero k h = omega (arith, ap (edges_in rows) (let e : k + 0 ≡ k = omega arith in e))
+  lines_length : (m k : ℕ) → k + m ≤ n → length (ended (row_texts k (rows_at rows k m))) + 12 * edges_to w k ≤ 14 * m + 12 * edges_to w (k + m)
+  unfolding ended row_texts rows_at edges_to
+  lines_length zero k h = omega (arith, ap (edges_to w) (let e : k + 0 ≡ k = omega arith in e))
   lines_length (suc m) k h =
       let this : List ℕ = row_text k (row_at rows k) in
       let others : List ℕ = ended (row_texts (suc k) (rows_at rows (suc k) m)) in
@@ -128,23 +128,23 @@ module _ (n : ℕ) (rows : List ℕ) (ok : check_of n rows ≡ Accepted) where
         length-append this (cr ∷ lf ∷ others),
         line_length k (omega arith),
         lines_length m (suc k) (omega arith),
-        ap (edges_in rows) (let e : suc k + m ≡ k + suc m = omega arith in e),
+        ap (edges_to w) (let e : suc k + m ≡ k + suc m = omega arith in e),
       )
 
-  edges_few : edges_in rows n ≤ most_edges
+  edges_few : edges w ≤ most_edges
   unfolding many_edges
   edges_few =
-      ltb-false most_edges (edges_in rows n) ((check_accepted n rows).0 ok (line 8 0 (many_edges n rows)) (there (Memᴰ.append_right (rows_lines n rows 0 n) (here refl))))
+      ltb-false most_edges (edges w) ((check_accepted n rows).0 ok (line 8 0 (many_edges n rows)) (there (Memᴰ.append_right (rows_lines n rows 0 n) (here refl))))
 
   -- Theorem: no file of an accepted graph is longer than this.
   pub file_short : length (file_of n rows) ≤ longest_file
-  unfolding file_of ended rows_of header_text joined behind word edges_in
+  unfolding file_of ended rows_of header_text joined behind word edges edges_to
   file_short =
       omega (
         arith,
         length-append header_text (cr ∷ lf ∷ ended (row_texts 0 (rows_at rows 0 n))),
         lines_length n 0 (omega arith),
-        ap (edges_in rows) (let e : 0 + n ≡ n = omega arith in e),
+        ap (edges_to w) (let e : 0 + n ≡ n = omega arith in e),
         edges_few,
         few,
       )

@@ -40,16 +40,16 @@ same-length-2 : tie.Need-same-length-2
 same-length-2 c = search rules
 
 returns-2 : tie.Need-returns-2
-returns-2 c = said_as _ _ c.before.before.before.before.before.before.before.before.if1.false c.before.before.before.before.before.before.before.read_file.ensures _ c.before.before.before.before.before.outcome.given.1 c.before.before.line-reason.ensures
+returns-2 c = said_as _ _ c.before.before.before.before.before.before.before.before.if1.false c.before.before.before.before.before.before.before.read-file.ensures _ c.before.before.before.before.before.outcome.given.1 c.before.before.line-reason.ensures
 
 same-length-3 : tie.Need-same-length-3
 same-length-3 c = search rules
 
 returns-3 : tie.Need-returns-3
-returns-3 c = said_as _ _ c.before.before.before.before.before.before.before.before.if1.false c.before.before.before.before.before.before.before.read_file.ensures _ c.before.before.before.before.before.outcome2.given.1 c.before.before.graph-reason.ensures
+returns-3 c = said_as _ _ c.before.before.before.before.before.before.before.before.if1.false c.before.before.before.before.before.before.before.read-file.ensures _ c.before.before.before.before.before.outcome2.given.1 c.before.before.graph-reason.ensures
 
 returns-4 : tie.Need-returns-4
-returns-4 c = said_as _ _ c.before.before.before.if1.false c.before.before.read_file.ensures _ c.enum_told.given.1 (nothing_said _)
+returns-4 c = said_as _ _ c.before.before.before.if1.false c.before.before.read-file.ensures _ c.enum_told.given.1 (nothing_said _)
 
 pub reasons-spec : {M : Type 1} → statement M
 reasons-spec =

@@ -23,13 +23,13 @@ same_length : tie.Need-same-length
 same_length c = search rules
 
 returns : tie.Need-returns
-returns c = graph_refused _ _ _ _ _ _ c.before.before.before.before.before.before.before.all_deadlocked.ensures c.before.before.before.before.before.found.given.1 c.before.before.refusal.ensures
+returns c = graph_refused _ _ _ _ _ _ c.before.before.before.before.before.before.before.all-deadlocked.ensures c.before.before.before.before.before.found.given.1 c.before.before.refusal.ensures
 
 same-length-2 : tie.Need-same-length-2
 same-length-2 c = search rules
 
 returns-2 : tie.Need-returns-2
-returns-2 c = graph_listed _ _ _ _ _ _ c.before.before.before.before.before.before.before.all_deadlocked.ensures c.before.before.before.before.before.found2.given.1 c.before.before.Node-Lines.ensures
+returns-2 c = graph_listed _ _ _ _ _ _ c.before.before.before.before.before.before.before.all-deadlocked.ensures c.before.before.before.before.before.found2.given.1 c.before.before.Node-Lines.ensures
 
 pub graph-spec : {M : Type 1} → statement M
 graph-spec =

@@ -35,13 +35,13 @@ enum_told : tie.Need-enum-told
 enum_told c = search rules
 
 mul-size : tie.Need-overflow-mul-size
-mul-size c = omega (arith, few_nodes _ c.before.before.before.read_file.ensures c.before.enum_told.given.1)
+mul-size c = omega (arith, few_nodes _ c.before.before.before.read-file.ensures c.before.enum_told.given.1)
 
 array-share-prefix-rows : tie.Need-array-share-prefix-rows
-array-share-prefix-rows c = rows_fit _ c.before.before.before.before.read_file.ensures c.before.before.enum_told.given.1
+array-share-prefix-rows c = rows_fit _ c.before.before.before.before.read-file.ensures c.before.before.enum_told.given.1
 
 slice-aggregate-graph : tie.Need-slice-aggregate-graph
-slice-aggregate-graph c = sym (length-take-le _ _ (rows_fit _ c.before.before.before.before.before.read_file.ensures c.before.before.before.enum_told.given.1))
+slice-aggregate-graph c = sym (length-take-le _ _ (rows_fit _ c.before.before.before.before.before.read-file.ensures c.before.before.before.enum_told.given.1))
 
 graph-requires : tie.Need-graph-requires
 graph-requires c κs = search rules
@@ -50,19 +50,19 @@ same-length-2 : tie.Need-same-length-2
 same-length-2 c = search rules
 
 returns-2 : tie.Need-returns-2
-returns-2 c = line_broken c.before.before.before.before.before.before.before.before.before.before.before.args.file.now _ _ _ (omega arith) c.before.before.before.before.before.before.before.read_file.ensures c.before.before.before.before.before.outcome.given.1 c.before.before.refusal.ensures
+returns-2 c = line_broken c.before.before.before.before.before.before.before.before.before.before.before.args.file.now _ _ _ (omega arith) c.before.before.before.before.before.before.before.read-file.ensures c.before.before.before.before.before.outcome.given.1 c.before.before.refusal.ensures
 
 same-length-3 : tie.Need-same-length-3
 same-length-3 c = search rules
 
 returns-3 : tie.Need-returns-3
-returns-3 c = file_refused c.before.before.before.before.before.before.before.before.before.before.before.args.file.now _ _ _ (omega arith) c.before.before.before.before.before.before.before.read_file.ensures c.before.before.before.before.before.outcome2.given.1 c.before.before.refusal2.ensures
+returns-3 c = file_refused c.before.before.before.before.before.before.before.before.before.before.before.args.file.now _ _ _ (omega arith) c.before.before.before.before.before.before.before.read-file.ensures c.before.before.before.before.before.outcome2.given.1 c.before.before.refusal2.ensures
 
 same-length-4 : tie.Need-same-length-4
 same-length-4 c = search rules
 
 returns-4 : tie.Need-returns-4
-returns-4 c = file_graph c.before.before.before.before.before.before.before.before.before.before.before.before.args.file.now c.before.before.before.before.before.before.before.before.read_file.ensures c.before.before.before.before.before.before.enum_told.given.1 _ _ _ (omega arith) c.before.before.graph.ensures
+returns-4 c = file_graph c.before.before.before.before.before.before.before.before.before.before.before.before.args.file.now c.before.before.before.before.before.before.before.before.read-file.ensures c.before.before.before.before.before.before.enum_told.given.1 _ _ _ (omega arith) c.before.before.graph.ensures
 
 pub report-spec : {M : Type 1} → statement M
 report-spec =

@@ -23,13 +23,13 @@ enum_told : tie.Need-enum-told
 enum_told c = search rules
 
 returns : tie.Need-returns
-returns c = absurd (never_refused _ _ _ c.before.before.before.before.before.before.before.before.requires c.before.before.before.before.before.file-room.ensures _ _ c.before.before.before.write_file.ensures c.enum_told.given.1)
+returns c = absurd (never_refused _ _ _ c.before.before.before.before.before.before.before.before.requires c.before.before.before.before.before.file-room.ensures _ _ c.before.before.before.write-file.ensures c.enum_told.given.1)
 
 array-share-prefix-file : tie.Need-array-share-prefix-file
-array-share-prefix-file c = written-inside _ _ _ c.before.before.before.before.before.before.before.before.before.before.requires c.before.before.before.before.before.before.before.file-room.ensures _ _ c.before.before.before.before.before.write_file.ensures _ c.before.before.written.given.1
+array-share-prefix-file c = written-inside _ _ _ c.before.before.before.before.before.before.before.before.before.before.requires c.before.before.before.before.before.before.before.file-room.ensures _ _ c.before.before.before.before.before.write-file.ensures _ c.before.before.written.given.1
 
 slice-aggregate-bytes : tie.Need-slice-aggregate-bytes
-slice-aggregate-bytes c = sym (length-take-le _ _ (written-inside _ _ _ c.before.before.before.before.before.before.before.before.before.before.before.requires c.before.before.before.before.before.before.before.before.file-room.ensures _ _ c.before.before.before.before.before.before.write_file.ensures _ c.before.before.before.written.given.1))
+slice-aggregate-bytes c = sym (length-take-le _ _ (written-inside _ _ _ c.before.before.before.before.before.before.before.before.before.before.before.requires c.before.before.before.before.before.before.before.before.file-room.ensures _ _ c.before.before.before.before.before.before.write-file.ensures _ c.before.before.before.written.given.1))
 
 bytes-requires : tie.Need-bytes-requires
 bytes-requires c κs = search rules
@@ -38,7 +38,7 @@ same_length : tie.Need-same-length
 same_length c = search rules
 
 returns-2 : tie.Need-returns-2
-returns-2 c = c.before.before.bytes.ensures ∙ ap (write _) (written-front _ _ _ c.before.before.before.before.before.before.before.before.before.before.before.before.before.before.requires c.before.before.before.before.before.before.before.before.before.before.before.file-room.ensures _ _ c.before.before.before.before.before.before.before.before.before.write_file.ensures _ c.before.before.before.before.before.before.written.given.1)
+returns-2 c = c.before.before.bytes.ensures ∙ ap (write _) (written-front _ _ _ c.before.before.before.before.before.before.before.before.before.before.before.before.before.before.requires c.before.before.before.before.before.before.before.before.before.before.before.file-room.ensures _ _ c.before.before.before.before.before.before.before.before.before.write-file.ensures _ c.before.before.before.before.before.before.written.given.1)
 
 pub graph-spec : {M : Type 1} → statement M
 graph-spec =

@@ -1,8 +1,7 @@
 -- `arrive_at` meets its contract. Assumes nothing.
 use mathlib.Core.Path.{◌∙◌, ap}
 use borrow.Author.Rules.{rules}
-use Rattle.step.proofs.Said.{received_as}
-use Rattle.bench.proofs.Made.{arrive_fits, arrive_joins, arrive_there}
+use Rattle.bench.proofs.Made.{arrive_fits, arrive_joins, arrive_there, arrived_as}
 use Rattle.bench.proofs.Sound.{good_sound, shaped}
 use Rattle.bench.specs.Steps.{arrive_at, join}
 use Rattle.bench.proofs.steps.arrive_at.Statement.{statement}
@@ -18,7 +17,7 @@ receive-requires : tie.Need-receive-requires
 receive-requires c κs = arrive_fits _ _ _ c.before.before.before.before.before.before.before.requires.0 _ c.before.before.before.before.before.before.before.requires.1 c.record-at.ensures
 
 join-requires : tie.Need-join-requires
-join-requires c κs = arrive_joins _ _ _ c.before.before.before.before.before.before.before.before.before.before.requires.0 _ c.before.before.before.before.before.before.before.before.before.before.requires.1 (received_as _ c.before.before.receive.ensures c.before.before.before.before.before.own_of_lem.ensures c.before.before.before.record-at.ensures)
+join-requires c κs = arrive_joins _ _ _ c.before.before.before.before.before.before.before.before.before.before.requires.0 _ c.before.before.before.before.before.before.before.before.before.before.requires.1 (arrived_as _ _ _ c.before.before.receive.ensures c.before.before.before.before.before.own_of_lem.ensures c.before.before.before.record-at.ensures)
 
 same_length : tie.Need-same-length
 same_length c = search rules
@@ -28,7 +27,7 @@ same-length-2 c = search rules
 
 returns : tie.Need-returns
 unfolding arrive_at
-returns c = c.before.before.before.before.join.ensures ∙ ap (join _ _ _) (received_as _ c.before.before.before.before.before.before.before.receive.ensures c.before.before.before.before.before.before.before.before.before.before.own_of_lem.ensures c.before.before.before.before.before.before.before.before.record-at.ensures)
+returns c = c.before.before.before.before.join.ensures ∙ ap (join _ _ _) (arrived_as _ _ _ c.before.before.before.before.before.before.before.receive.ensures c.before.before.before.before.before.before.before.before.before.before.own_of_lem.ensures c.before.before.before.before.before.before.before.before.record-at.ensures)
 
 pub arrive-at-spec : {M : Type 1} → statement M
 arrive-at-spec = tie.close (tie.spec own-of-requires record-at-requires receive-requires join-requires same_length same-length-2 returns)

@@ -26,7 +26,7 @@ refuse-requires-2 c κs = search rules
 
 returns-2 : tie.Need-returns-2
 unfolding open_at no_node
-returns-2 c = at_false _ (lt-leb _ _ c.before.before.before.if1.false) (at_true _ (flag c.before.before.cannot_open_lem.ensures c.before.if2.true) (refused_as _ _ _ _ _ c.refuse2.ensures))
+returns-2 c = at_false _ (lt-leb _ _ c.before.before.before.if1.false) (at_true _ (flag c.before.before.cannot-open.ensures c.before.if2.true) (refused_as _ _ _ _ _ c.refuse2.ensures))
 
 own-of-requires : tie.Need-own-of-requires
 own-of-requires c κs = (shaped _ _ _ (good_sound _ _ _ c.before.before.before.before.before.before.before.requires), c.before.before.if1.false)
@@ -35,7 +35,7 @@ open-round-requires : tie.Need-open-round-requires
 open-round-requires c κs = search rules
 
 join-requires : tie.Need-join-requires
-join-requires c κs = open_joins _ _ _ c.before.before.before.before.before.before.before.before.before.before.before.requires _ _ c.before.before.before.before.before.before.if1.false (flag c.before.before.before.before.before.cannot_open_lem.ensures c.before.before.before.before.if2.false) (opened_as _ c.before.before.open-round.ensures c.before.before.before.own_of_lem.ensures)
+join-requires c κs = open_joins _ _ _ c.before.before.before.before.before.before.before.before.before.before.before.requires _ _ c.before.before.before.before.before.before.if1.false (flag c.before.before.before.before.before.cannot-open.ensures c.before.before.before.before.if2.false) (opened_as _ c.before.before.open-round.ensures c.before.before.before.own_of_lem.ensures)
 
 same_length : tie.Need-same-length
 same_length c = search rules
@@ -45,7 +45,7 @@ same-length-2 c = search rules
 
 returns-3 : tie.Need-returns-3
 unfolding open_at no_node
-returns-3 c = at_false _ (lt-leb _ _ c.before.before.before.before.before.before.before.before.before.before.before.if1.false) (at_false _ (flag c.before.before.before.before.before.before.before.before.before.before.cannot_open_lem.ensures c.before.before.before.before.before.before.before.before.before.if2.false) (c.before.before.before.before.join.ensures ∙ ap (join _ _ _) (opened_as _ c.before.before.before.before.before.before.before.open-round.ensures c.before.before.before.before.before.before.before.before.own_of_lem.ensures)))
+returns-3 c = at_false _ (lt-leb _ _ c.before.before.before.before.before.before.before.before.before.before.before.if1.false) (at_false _ (flag c.before.before.before.before.before.before.before.before.before.before.cannot-open.ensures c.before.before.before.before.before.before.before.before.before.if2.false) (c.before.before.before.before.join.ensures ∙ ap (join _ _ _) (opened_as _ c.before.before.before.before.before.before.before.open-round.ensures c.before.before.before.before.before.before.before.before.own_of_lem.ensures)))
 
 pub open-at-spec : {M : Type 1} → statement M
 open-at-spec =

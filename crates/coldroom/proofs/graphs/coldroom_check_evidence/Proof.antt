@@ -15,7 +15,7 @@ enum-known-judged : tie.Need-enum-known-judged
 enum-known-judged c = search rules
 
 refusal-requires : tie.Need-refusal-requires
-refusal-requires c κs = judged_small _ _ _ _ _ (sym c.before.before.before.check_evidence.ensures ∙ c.before.judged.given.1)
+refusal-requires c κs = judged_small _ _ _ _ _ (sym c.before.before.before.check-evidence.ensures ∙ c.before.judged.given.1)
 
 enum_told : tie.Need-enum-told
 enum_told c = search rules
@@ -36,19 +36,19 @@ add-result-3 : tie.Need-overflow-add-result-3
 add-result-3 c = search rules
 
 add-result-4 : tie.Need-overflow-add-result-4
-add-result-4 c = omega (arith, member_few _ _ _ _ _ (sym c.before.before.before.check_evidence.ensures ∙ c.before.judged2.given.1))
+add-result-4 c = omega (arith, member_few _ _ _ _ _ (sym c.before.before.before.check-evidence.ensures ∙ c.before.judged2.given.1))
 
 returns : tie.Need-returns
-returns c = in_arm judged_number (sym c.before.before.before.before.check_evidence.ensures ∙ c.before.before.judged.given.1) c.refusal.ensures
+returns c = in_arm judged_number (sym c.before.before.before.before.check-evidence.ensures ∙ c.before.before.judged.given.1) c.refusal.ensures
 
 returns-2 : tie.Need-returns-2
-returns-2 c = in_arm judged_number (sym c.before.before.check_evidence.ensures ∙ c.enum_told.given.1) refl
+returns-2 c = in_arm judged_number (sym c.before.before.check-evidence.ensures ∙ c.enum_told.given.1) refl
 
 returns-3 : tie.Need-returns-3
-returns-3 c = in_arm judged_number (sym c.before.before.check_evidence.ensures ∙ c.enum-told2.given.1) refl
+returns-3 c = in_arm judged_number (sym c.before.before.check-evidence.ensures ∙ c.enum-told2.given.1) refl
 
 returns-4 : tie.Need-returns-4
-returns-4 c = in_arm judged_number (sym c.before.before.before.check_evidence.ensures ∙ c.before.judged2.given.1) (omega arith)
+returns-4 c = in_arm judged_number (sym c.before.before.before.check-evidence.ensures ∙ c.before.judged2.given.1) (omega arith)
 
 pub coldroom-check-evidence-spec : {M : Type 1} → statement M
 coldroom-check-evidence-spec =

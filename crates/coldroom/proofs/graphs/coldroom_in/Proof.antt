@@ -16,17 +16,17 @@ enum-known-found : tie.Need-enum-known-found
 enum-known-found c = search rules
 
 refusal-requires : tie.Need-refusal-requires
-refusal-requires c κs = waiting_small _ _ _ _ _ c.before.before.before.waiting_on.ensures c.before.found.given.1
+refusal-requires c κs = waiting_small _ _ _ _ _ c.before.before.before.waiting-on.ensures c.before.found.given.1
 
 enum-known-found-2 : tie.Need-enum-known-found-2
 enum-known-found-2 c = search rules
 
 returns : tie.Need-returns
-returns c = in_says _ found_number (c.before.before.before.before.waiting_on.ensures, ap (set_after _) (sym c.before.before.found.given.1)) c.before.before.found.given.1 c.refusal.ensures
+returns c = in_says _ found_number (c.before.before.before.before.waiting-on.ensures, ap (set_after _) (sym c.before.before.found.given.1)) c.before.before.found.given.1 c.refusal.ensures
 
 returns-2 : tie.Need-returns-2
 unfolding num
-returns-2 c = in_says _ found_number (c.before.before.before.waiting_on.ensures, ap (set_after _) (sym c.before.found2.given.1)) c.before.found2.given.1 refl
+returns-2 c = in_says _ found_number (c.before.before.before.waiting-on.ensures, ap (set_after _) (sym c.before.found2.given.1)) c.before.found2.given.1 refl
 
 pub coldroom-in-spec : {M : Type 1} → statement M
 coldroom-in-spec =

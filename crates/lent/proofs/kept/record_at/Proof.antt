@@ -1,8 +1,7 @@
 -- `record_at` meets its contract. Assumes nothing.
 use mathlib.Core.Path.{refl}
 use borrow.Author.Rules.{rules}
-use Rattle.nodes.specs.Words.{num}
-use Rattle.lent.specs.Kept.{state_at}
+use Rattle.lent.specs.Kept.{record_at}
 use Rattle.lent.proofs.kept.record_at.Statement.{statement}
 use Rattle.lent.proofs.kept.record_at.Tie as tie
 
@@ -70,7 +69,7 @@ shared-slice-read-t36 : tie.Need-shared-slice-read-t36
 shared-slice-read-t36 c = search rules
 
 returns : tie.Need-returns
-unfolding state_at num
+unfolding record_at
 returns c = refl
 
 pub record-at-spec : {M : Type 1} → statement M

@@ -26,10 +26,10 @@ refused-requires : tie.Need-refused-requires
 refused-requires c κs = search rules
 
 returns-2 : tie.Need-returns-2
-returns-2 c = c.refused.ensures ∙ refused_here _ (open_next _ _ _ _ _ _) (sym c.before.before.before.before.before.before.check-kept.ensures ∙ c.before.before.before.before.enum_told.given.1) (flag c.before.before.cannot_open_lem.ensures c.before.if1.true)
+returns-2 c = c.refused.ensures ∙ refused_here _ (open_next _ _ _ _ _ _) (sym c.before.before.before.before.before.before.check-kept.ensures ∙ c.before.before.before.before.enum_told.given.1) (flag c.before.before.cannot-open.ensures c.before.if1.true)
 
 returns-3 : tie.Need-returns-3
-returns-3 c = not_refused _ (open_next _ _ _ _ _ _) (sym c.before.before.before.before.before.check-kept.ensures ∙ c.before.before.before.enum_told.given.1) (flag c.before.cannot_open_lem.ensures c.if1.false)
+returns-3 c = not_refused _ (open_next _ _ _ _ _ _) (sym c.before.before.before.before.before.check-kept.ensures ∙ c.before.before.before.enum_told.given.1) (flag c.before.cannot-open.ensures c.if1.false)
 
 pub check-open-spec : {M : Type 1} → statement M
 check-open-spec =

@@ -2,7 +2,7 @@
 use mathlib.Core.Path.{refl, sym, ◌∙◌}
 use borrow.Author.Rules.{rules}
 use Rattle.lemmas.proofs.Cases.{in_arm}
-use Rattle.records.proofs.Compared.{is_behind, told_behind}
+use Rattle.records.specs.Rounds.{is_behind, behind}
 use Rattle.records.proofs.rounds.behind.Statement.{statement}
 use Rattle.records.proofs.rounds.behind.Tie as tie
 
@@ -19,13 +19,16 @@ enum-told-3 : tie.Need-enum-told-3
 enum-told-3 c = search rules
 
 returns : tie.Need-returns
-returns c = in_arm is_behind (sym c.before.before.compare.ensures ∙ c.enum_told.given.1) refl ∙ told_behind _ _
+unfolding behind
+returns c = in_arm is_behind (sym c.before.before.compare.ensures ∙ c.enum_told.given.1) refl
 
 returns-2 : tie.Need-returns-2
-returns-2 c = in_arm is_behind (sym c.before.before.compare.ensures ∙ c.enum-told2.given.1) refl ∙ told_behind _ _
+unfolding behind
+returns-2 c = in_arm is_behind (sym c.before.before.compare.ensures ∙ c.enum-told2.given.1) refl
 
 returns-3 : tie.Need-returns-3
-returns-3 c = in_arm is_behind (sym c.before.before.compare.ensures ∙ c.enum-told3.given.1) refl ∙ told_behind _ _
+unfolding behind
+returns-3 c = in_arm is_behind (sym c.before.before.compare.ensures ∙ c.enum-told3.given.1) refl
 
 pub behind-spec : {M : Type 1} → statement M
 behind-spec =
