@@ -14,7 +14,7 @@ use nodes::{Node, Round};
 use waits::{Checked, refused};
 
 // How many messages are sent now, the highest round opened, and whether the list was refused as a whole.
-#[derive(Drop)]
+#[derive(Clone, Copy)]
 pub struct Ran {
     pub sent: usize,
     pub highest: Round,

@@ -23,7 +23,7 @@ use step::{Answer, Own, Stepped, open_round, receive};
 use waits::{Refusal, in_of, row_at};
 
 // How many messages are sent now, the highest round opened, and the answer.
-#[derive(Drop)]
+#[derive(Clone, Copy)]
 pub struct Reply {
     pub sent: usize,
     pub highest: Round,

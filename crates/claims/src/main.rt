@@ -1,5 +1,6 @@
 // Reads a file of waits from standard input, and writes who is deadlocked to standard output, or the refusal; and to standard error why it
 // is refused, or that nobody is deadlocked, in plain words.
+#![tactic(auto)]
 use reasons::{reasons, words_room};
 use report::{file_room, report, text_room};
 use streams::{Input, read_all, say, write_all};

@@ -6,13 +6,13 @@ use crate::refusals::check_node;
 use nodes::{Node, Set};
 use waits::{Checked, Refusal, check};
 
-#[derive(Drop)]
+#[derive(Clone, Copy)]
 pub enum Found {
     Nodes(Set),
     Refused(Refusal),
 }
 
-#[derive(Drop)]
+#[derive(Clone, Copy)]
 pub enum Claim {
     Deadlocked,
     NotDeadlocked,

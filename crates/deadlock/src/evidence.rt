@@ -13,14 +13,14 @@ use crate::refusals::{check_list, check_room, named};
 use nodes::{Node, Set};
 use waits::{Checked, Refusal, holds, row_at};
 
-#[derive(Drop)]
+#[derive(Clone, Copy)]
 pub enum Written {
     Bytes(usize),
     Refused(Refusal),
 }
 
 // What is said of a list that is offered for a claim.
-#[derive(Drop)]
+#[derive(Clone, Copy)]
 pub enum Judged {
     // The claim is in the list, and no member's condition holds when every node outside the list grants.
     Passes,

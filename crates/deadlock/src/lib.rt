@@ -1,4 +1,5 @@
 // Who is deadlocked, the evidence for it, and the ring; and who waits on a node.
+#![tactic(auto)]
 mod claims;
 mod evidence;
 mod reach;

@@ -7,7 +7,7 @@ use crate::refusals::check_node;
 use nodes::Node;
 use waits::{Checked, Refusal};
 
-#[derive(Drop)]
+#[derive(Clone, Copy)]
 pub enum Report {
     InRing,
     BehindRing,

@@ -7,7 +7,7 @@ ghost use Rattle.faults.specs.Flaws.{number_flaw, member_in, set_flaw};
 use fields::{Numbered, find, number_in};
 use nodes::PLACES;
 
-#[derive(Drop)]
+#[derive(Clone, Copy)]
 pub enum Flaw {
     // The line has too few fields.
     Missing,
@@ -24,13 +24,13 @@ pub enum Flaw {
     Descends,
 }
 
-#[derive(Drop)]
+#[derive(Clone, Copy)]
 pub enum Judged {
     Fine,
     Wrong(Flaw),
 }
 
-#[derive(Drop)]
+#[derive(Clone, Copy)]
 pub enum Member {
     Is(u64),
     IsNot(Flaw),

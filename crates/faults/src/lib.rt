@@ -1,4 +1,5 @@
 // What is wrong with a line of a file of waits, the first thing that is.
+#![tactic(auto)]
 ghost use Rattle.std.specs.Prelude.{◌≡◌};
 ghost use Rattle.format.specs.Cut.{comma, pieces};
 ghost use Rattle.faults.specs.Faults.{line_fault, header_fault, field_flaw, fields_fault, row_fault, fault_of};
@@ -17,7 +18,7 @@ const NUMBERS: usize = 3;
 
 const COLUMNS: usize = 7;
 
-#[derive(Drop)]
+#[derive(Clone, Copy)]
 pub enum Fault {
     // Line 1: there is none, it has a byte-order mark in front, it is no header.
     EmptyFile,

@@ -5,7 +5,7 @@ ghost use Rattle.fields.specs.Answers.{numbered};
 
 use text::{Next, grown};
 
-#[derive(Drop)]
+#[derive(Clone, Copy)]
 pub enum Numbered {
     NoNumber,
     Number(u64),

@@ -7,7 +7,7 @@ use crate::ends::find;
 use crate::numbers::{Numbered, number_in};
 use nodes::{Node, PLACES, Set};
 
-#[derive(Drop)]
+#[derive(Clone, Copy)]
 pub enum Gathered {
     NoSet,
     Members(Set),

@@ -4,7 +4,7 @@ ghost use Rattle.format.specs.Fields.{same as same_of};
 ghost use Rattle.fields.specs.Answers.{bareAt};
 
 // A part of a text: from start to before end.
-#[derive(Drop)]
+#[derive(Clone, Copy)]
 pub struct Part {
     pub start: usize,
     pub end: usize,

@@ -27,6 +27,7 @@ any_some p (a ∷ l) e =
 pub some_any : (p : ℕ → Bool) (l : List ℕ) (x : ℕ) → Memᴰ x l → p x ≡ true → any_of p l ≡ true
 some_any p (a ∷ l) x (here e) h = or_intro_left (p a) (any_of p l) (rw e at h)
 some_any p (a ∷ l) x (there m) h = or_intro_right (p a) (any_of p l) (some_any p l x m h)
+some_any p [] x x4 h = elim x4 [ ]
 
 -- Law: none meets it exactly if each doesn't.
 pub any_none : (p : ℕ → Bool) (l : List ℕ) → (any_of p l ≡ false) ↔ ((x : ℕ) → Memᴰ x l → p x ≡ false)

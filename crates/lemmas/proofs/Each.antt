@@ -25,6 +25,7 @@ module _ {A B : Type 0} (f : A → List B) where
   unfolding flat_map
   each_in (a ∷ l) x y (here e) n = mathlib.Core.List.Memᴰ.append_left (flat_map f l) (rw e at n)
   each_in (a ∷ l) x y (there m) n = mathlib.Core.List.Memᴰ.append_right (f a) (each_in l x y m n)
+  each_in [] x y x4 n = elim x4 [ ]
 
   pub each_length : (l : List A) → length (flat_map f l) ≡ total (λ x. length (f x)) l
   unfolding flat_map

@@ -23,10 +23,12 @@ module _ {A : Type 0} where
   pub mapped_from : {B : Type 0} (f : A → B) (l : List A) (y : B) → Memᴰ y (map f l) → (x : A) × Memᴰ x l × (y ≡ f x)
   mapped_from f (a ∷ l) y (here e) = (a, here refl, e)
   mapped_from f (a ∷ l) y (there m) = let r = mapped_from f l y m in (r.0, there r.1, r.2)
+  mapped_from {B = B} f [] y x' = elim x' [ ]
 
   pub mapped : {B : Type 0} (f : A → B) (l : List A) (x : A) → Memᴰ x l → Memᴰ (f x) (map f l)
   mapped f (a ∷ l) x (here e) = here (ap f e)
   mapped f (a ∷ l) x (there m) = there (mapped f l x m)
+  mapped {B = B} f [] x x3 = elim x3 [ ]
 
   -- where different members go to different ones
   pub once_map : {B : Type 0} (f : A → B) (l : List A) → ((x y : A) → Memᴰ x l → Memᴰ y l → f x ≡ f y → x ≡ y) → Once l → Once (map f l)
@@ -51,6 +53,7 @@ module _ {A : Type 0} where
       rest : (k : List A) → ((y : A) → (y ≡ x → ⊥) → Memᴰ y l → Memᴰ y k) → (y : A) → (y ≡ x → ⊥) → Memᴰ y (a ∷ l) → Memᴰ y (a ∷ k)
       rest k g y n (here f) = here f
       rest k g y n (there m) = there (g y n m)
+  without x [] x'' = elim x'' [ ]
 
   -- a list that has nothing twice is no longer than one that has all its members
   pub no_longer : (xs ys : List A) → Once xs → ((x : A) → Memᴰ x xs → Memᴰ x ys) → length xs ≤ length ys

@@ -54,6 +54,7 @@ module _ {A : Type 0} (p : A → Bool) where
       kept : (b : Bool) → Memᴰ x (those p l) → Memᴰ x (cond b (a ∷ those p l) (those p l))
       kept true n = there n
       kept false n = n
+  those_in [] x x4 e = elim x4 [ ]
 
 -- ---- how many there are
 -- of a list that is mapped there are as many as of the list, where the tests say the same
@@ -82,6 +83,7 @@ total_more g h f (r ∷ l) = omega (arith, f r, total_more g h f l)
 one_more : (g h : ℕ → ℕ) → ((r : ℕ) → h r ≤ g r) → (x : ℕ) → suc (h x) ≤ g x → (l : List ℕ) → Memᴰ x l → suc (total h l) ≤ total g l
 one_more g h f x e (r ∷ l) (here q) = let e' : suc (h r) ≤ g r = rw q at e in omega (arith, total_more g h f l)
 one_more g h f x e (r ∷ l) (there m) = omega (arith, f r, one_more g h f x e l m)
+one_more g h f x e [] x'' = elim x'' [ ]
 
 module _ {A : Type 0} (f : A → ℕ) where
   -- those with the number r

@@ -1,4 +1,5 @@
 // Records, messages, steps and answers as numbers, in the lists that callers lend.
+#![tactic(auto)]
 mod kept;
 mod sending;
 mod steps;

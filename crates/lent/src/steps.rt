@@ -6,7 +6,7 @@ ghost use Rattle.lent.specs.Steps.{step_of, answer_number};
 use step::{Answer, code};
 
 // What a bench is asked to do: kind 0 opens node a in round b, kind 1 delivers message a; there are no others.
-#[derive(Drop)]
+#[derive(Clone, Copy)]
 pub struct Step {
     pub kind: u64,
     pub a: u64,

@@ -1,5 +1,6 @@
 // The paper's mornings: their claims, their rounds and their runs; lists that are offered, bad input of every kind, and a
 // round in two orders.
+#![tactic(auto)]
 mod claims;
 mod graphs;
 mod lines;

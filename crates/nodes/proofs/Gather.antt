@@ -69,6 +69,7 @@ pub list_in : (l : List ℕ) (k : ℕ) → Memᴰ k l → In k (set_of l)
 unfolding set_of
 list_in (x ∷ l) k (here e) = rw e (bit_with_same (set_of l) x)
 list_in (x ∷ l) k (there m) = inside_member (set_of l) (with (set_of l) x) k (with_grows (set_of l) x) (list_in l k m)
+list_in [] k x' = elim x' [ ]
 
 pub in_list : (l : List ℕ) (k : ℕ) → In k (set_of l) → Memᴰ k l
 unfolding set_of

@@ -1,4 +1,5 @@
 // Nodes, rounds, and sets of nodes. Nothing outside this crate shifts or masks.
+#![tactic(auto)]
 ghost use Rattle.std.specs.Prelude.{◌≡◌, ◌<◌, ◌≤◌, eqb};
 ghost use Rattle.nodes.specs.Sets.{bit, has, union, meet, minus, with, below, inside, members, size};
 ghost use Rattle.nodes.specs.Words.{places, num, first_of};
@@ -7,18 +8,18 @@ ghost use Rattle.nodes.specs.Words.{places, num, first_of};
 pub const PLACES: usize = 64;
 
 // A node's number, and a round's number: neither passes for the other.
-#[derive(Drop)]
+#[derive(Clone, Copy)]
 pub struct Node(pub usize);
 
-#[derive(Drop)]
+#[derive(Clone, Copy)]
 pub struct Round(pub u64);
 
 // A set of nodes: bit k is node k.
-#[derive(Drop)]
+#[derive(Clone, Copy)]
 pub struct Set(pub u64);
 
 // The smallest member of a set, if it has one.
-#[derive(Drop)]
+#[derive(Clone, Copy)]
 pub enum Smallest {
     At(Node),
     Nothing,

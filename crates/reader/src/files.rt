@@ -15,13 +15,13 @@ use waits::{Checked, ROW, Refusal, Row, check, put_row};
 pub const NUMBERS: usize = 384;
 
 // The line that breaks a rule, or how many rows there are.
-#[derive(Drop)]
+#[derive(Clone, Copy)]
 pub enum Lines {
     Broken(usize),
     Rows(usize),
 }
 
-#[derive(Drop)]
+#[derive(Clone, Copy)]
 pub enum Outcome {
     // The file says a graph that isn't refused.
     Graph,
@@ -32,14 +32,14 @@ pub enum Outcome {
 }
 
 // What an outcome is known by outside: its number, and its line or row; 0 and 0 where nothing is refused.
-#[derive(Drop)]
+#[derive(Clone, Copy)]
 pub struct Told {
     pub number: u64,
     pub place: u64,
 }
 
 // What a file says. Unless it is a graph, there is no node, and every number is 0.
-#[derive(Drop)]
+#[derive(Clone, Copy)]
 pub struct File {
     pub outcome: Outcome,
     pub nodes: usize,

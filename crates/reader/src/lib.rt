@@ -1,4 +1,5 @@
 // The reader of a file of waits: its fields, its lines, the whole file.
+#![tactic(auto)]
 mod files;
 mod lines;
 mod places;

@@ -6,7 +6,7 @@ ghost use Rattle.reader.specs.Answers.{rowSaid};
 use crate::places::{number_at, set_at, word_at};
 use waits::Row;
 
-#[derive(Drop)]
+#[derive(Clone, Copy)]
 pub enum RowRead {
     NoRow,
     IsRow(Row),

@@ -8,20 +8,20 @@ use fields::{Gathered, Numbered, bare, find, number_in, same, set_in};
 use nodes::Set;
 
 // A field without its quotes, and where the next one starts.
-#[derive(Drop)]
+#[derive(Clone, Copy)]
 pub struct FieldAt {
     pub start: usize,
     pub end: usize,
     pub next: usize,
 }
 
-#[derive(Drop)]
+#[derive(Clone, Copy)]
 pub struct NumberAt {
     pub value: u64,
     pub next: usize,
 }
 
-#[derive(Drop)]
+#[derive(Clone, Copy)]
 pub struct SetAt {
     pub value: Set,
     pub next: usize,

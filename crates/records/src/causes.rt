@@ -6,11 +6,11 @@ ghost use Rattle.records.specs.Causes.{why_of, happened, by_itself, sender_of, s
 use nodes::{Node, Set};
 
 // As a number: 0 not at all, 1 by the node itself, k + 2 by node k.
-#[derive(Drop)]
+#[derive(Clone, Copy)]
 pub struct Cause(pub u64);
 
 // The same by cases. Called by itself is an initiator; freed by itself is an active node.
-#[derive(Drop)]
+#[derive(Clone, Copy)]
 pub enum Why {
     Not,
     Itself,

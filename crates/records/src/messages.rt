@@ -8,7 +8,7 @@ use nodes::{Node, Round};
 // How many kinds there are.
 const KINDS: u64 = 4;
 
-#[derive(Drop)]
+#[derive(Clone, Copy)]
 pub enum Kind {
     Notify,
     Grant,
@@ -17,7 +17,7 @@ pub enum Kind {
 }
 
 // A message as it is handed in: any number may stand for its kind.
-#[derive(Drop)]
+#[derive(Clone, Copy)]
 pub struct Message {
     pub kind: u64,
     pub from: Node,

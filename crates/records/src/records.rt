@@ -11,7 +11,7 @@ use nodes::{Node, Round, Set};
 
 // The round; whether the node is called in it and free in it, and through whom; and whose NOTIFY, GRANT, ACK and DONE it
 // has had.
-#[derive(Drop)]
+#[derive(Clone, Copy)]
 pub struct Record {
     pub round: Round,
     pub call: Cause,

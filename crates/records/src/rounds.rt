@@ -9,7 +9,7 @@ use nodes::Round;
 pub const LAST: u64 = 65_535;
 
 // How a round stands to a record's.
-#[derive(Drop)]
+#[derive(Clone, Copy)]
 enum Compared {
     Behind,
     Same,

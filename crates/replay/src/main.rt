@@ -1,5 +1,6 @@
 // Reads a script from standard input, takes its steps, and writes what came of them to standard output; and to standard error why it is
 // no script, if it is none.
+#![tactic(auto)]
 use snags::{snag_room, snags};
 use streams::{Input, read_all, say, write_all};
 use transcript::{script_room, text_room, transcript};

@@ -1,5 +1,6 @@
 // Reads a file of waits from standard input, and writes it to standard output as the writer writes it, or the refusal; and why it is
 // refused to standard error, in plain words.
+#![tactic(auto)]
 use reasons::{reasons, words_room};
 use report::file_room;
 use rewritten::rewritten;

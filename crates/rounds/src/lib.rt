@@ -1,1 +1,2 @@
 // No function: that a round is right, as theorems over the definitions of `step`. They stand in proofs/.
+#![tactic(auto)]

@@ -1,4 +1,5 @@
 // A script: its bytes, its numbers, its steps.
+#![tactic(auto)]
 mod numbers;
 mod script;
 mod steps;

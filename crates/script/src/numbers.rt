@@ -5,13 +5,13 @@ ghost use Rattle.script.specs.Numbers.{blank as the_blank, so_far, EndSays, Read
 use text::{Next, grown};
 
 // Where a reader is: between two numbers, or within one, with its value so far.
-#[derive(Drop)]
+#[derive(Clone, Copy)]
 pub enum Place {
     Between,
     Within(u64),
 }
 
-#[derive(Drop)]
+#[derive(Clone, Copy)]
 pub enum Count {
     Bad,
     Read(usize),

@@ -17,7 +17,7 @@ pub const NUMBERS: usize = 32772;
 pub const BYTES: usize = 1048576;
 
 // The node count, how many row numbers there are, the room, and how many steps there are.
-#[derive(Drop)]
+#[derive(Clone, Copy)]
 pub struct Shape {
     pub nodes: u64,
     pub rows: usize,
@@ -25,7 +25,7 @@ pub struct Shape {
     pub steps: usize,
 }
 
-#[derive(Drop)]
+#[derive(Clone, Copy)]
 pub enum Parsed {
     NoScript,
     Script(Shape),

@@ -6,7 +6,7 @@ use crate::numbers::{Place, blank, so_far};
 use text::{Next, grown};
 
 // At its end; or at a line, counted from 1, by a byte that is neither a digit nor a blank, or by a digit that makes a number too large.
-#[derive(Drop)]
+#[derive(Clone, Copy)]
 pub enum Stop {
     End,
     Odd(usize),

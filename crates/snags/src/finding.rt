@@ -4,7 +4,7 @@ ghost use Rattle.snags.specs.Snags.{step_snag, numbers_snag, snag_of};
 
 use script::{BYTES, Count, KINDS, MOST, NUMBERS, PARTS, Stop, read, stop_of};
 
-#[derive(Drop)]
+#[derive(Clone, Copy)]
 pub enum Snag {
     Nothing,
     // More bytes than a script may have.

@@ -10,14 +10,14 @@ use records::Record;
 use waits::Refusal;
 
 // What a step says of its round: nothing while it is open, or how it ended.
-#[derive(Drop)]
+#[derive(Clone, Copy)]
 pub enum Verdict {
     NoVerdict,
     Deadlocked,
     NotDeadlocked,
 }
 
-#[derive(Drop)]
+#[derive(Clone, Copy)]
 pub enum Answer {
     Refused(Refusal),
     Old,
@@ -28,7 +28,7 @@ pub enum Answer {
 }
 
 // The next record, who is sent what, and the answer.
-#[derive(Drop)]
+#[derive(Clone, Copy)]
 pub struct Stepped {
     pub state: Record,
     pub sends: Sends,

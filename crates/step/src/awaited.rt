@@ -10,7 +10,7 @@ use nodes::{Node, Set};
 use records::{Cause, Record};
 use waits::{Row, holds, out_of};
 
-#[derive(Drop)]
+#[derive(Clone, Copy)]
 pub struct Own {
     pub me: Node,
     pub row: Row,

@@ -1,4 +1,5 @@
 // How one node behaves: an opening, or a message, with nothing refused.
+#![tactic(auto)]
 mod answers;
 mod arrivals;
 mod awaited;

@@ -7,7 +7,7 @@ ghost use Rattle.step.specs.Views.{receivers_of};
 use nodes::Set;
 use records::Kind;
 
-#[derive(Drop)]
+#[derive(Clone, Copy)]
 pub struct Sends {
     pub notify: Set,
     pub grant: Set,

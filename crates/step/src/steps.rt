@@ -15,14 +15,14 @@ use records::{Cause, Kind, Record};
 use waits::{holds, out_of};
 
 // What a step has done so far.
-#[derive(Drop)]
+#[derive(Clone, Copy)]
 pub struct Did {
     pub state: Record,
     pub sends: Sends,
 }
 
 // What it has done in the end.
-#[derive(Drop)]
+#[derive(Clone, Copy)]
 pub struct End {
     pub state: Record,
     pub sends: Sends,

@@ -1,11 +1,12 @@
 // Standard input and standard output, whole: a read or a write that fails is never taken for an end.
+#![tactic(auto)]
 ghost use Rattle.std.specs.Prelude.{◌-◌, ◌≤◌, length};
 ghost use Rattle.streams.specs.Streams.{Within, DoneWithin};
 
 // How often a read of everything goes on that was interrupted before it moved a byte: a number, so that it ends.
 const TRIES: usize = 1000;
 
-#[derive(Drop)]
+#[derive(Clone, Copy)]
 pub enum Input {
     // A read failed, and errno says why.
     Failed,
@@ -14,7 +15,7 @@ pub enum Input {
 }
 
 // What one call did.
-#[derive(Drop)]
+#[derive(Clone, Copy)]
 enum Done {
     Failed,
     Interrupted,

@@ -6,7 +6,7 @@ ghost use Rattle.text.specs.Digits.{grown as grown_of};
 const LARGEST: u64 = 18446744073709551615;
 
 // What a byte makes of a number that it follows.
-#[derive(Drop)]
+#[derive(Clone, Copy)]
 pub enum Next {
     Number(u64),
     Strange,

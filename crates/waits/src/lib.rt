@@ -1,4 +1,5 @@
 // The graph of waits: what rows mean, and when they are refused.
+#![tactic(auto)]
 mod numbers;
 mod rows;
 

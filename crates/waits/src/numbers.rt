@@ -11,13 +11,13 @@ use nodes::{Node, PLACES, Set};
 pub const EDGES: u64 = 512;
 
 // A refusal's number, and its row: 0 for a number that is not of a row.
-#[derive(Drop)]
+#[derive(Clone, Copy)]
 pub struct Refusal {
     pub number: u64,
     pub row: Node,
 }
 
-#[derive(Drop)]
+#[derive(Clone, Copy)]
 pub enum Checked {
     Accepted,
     Refused(Refusal),

@@ -13,7 +13,7 @@ use nodes::{Node, Set};
 pub const ROW: usize = 6;
 
 // What one node waits for.
-#[derive(Drop)]
+#[derive(Clone, Copy)]
 pub struct Row {
     pub kind: u64,
     pub threshold: u64,

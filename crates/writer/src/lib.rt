@@ -1,4 +1,5 @@
 // A graph's file, written into lent bytes.
+#![tactic(auto)]
 ghost use Rattle.std.specs.Prelude.{◌≡◌, ◌∷◌, map, replicate};
 ghost use Rattle.nodes.specs.Sets.{members};
 ghost use Rattle.nodes.specs.Words.{num};
@@ -16,7 +17,7 @@ use waits::{Checked, Refusal, Row, check, row_at};
 // No file of an accepted graph is longer: 41 bytes for the header, 14 for each of at most 64 rows, 12 for each of at most 512 edges.
 const LONGEST: usize = 7081;
 
-#[derive(Drop)]
+#[derive(Clone, Copy)]
 pub enum Written {
     Bytes(usize),
     Refused(Refusal),
