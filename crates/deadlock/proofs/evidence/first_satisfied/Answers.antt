@@ -1,6 +1,5 @@
 -- `first_satisfied` meets its contract. The loop's invariant: the answer is that of the members from here on. Assumes nothing.
 use mathlib.Core.Path.{refl}
-use Prim.Native.Nat.{◌-◌}
 use native.Mathlib.Omega.{arith}
 use Rattle.nodes.specs.Words.{num}
 use Rattle.waits.specs.Rows.{waits_of}

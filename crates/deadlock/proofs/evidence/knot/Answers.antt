@@ -2,7 +2,7 @@
 use mathlib.Core.Path.{ap₂, ◌∙◌}
 use native.Mathlib.Omega.{arith}
 use Rattle.lemmas.proofs.Cases.{at_true, at_false}
-use Rattle.nodes.specs.Sets.{has, meet, with}
+use Rattle.nodes.specs.Sets.{meet}
 use Rattle.deadlock.specs.Sweeps.{knot as knot_of}
 use Rattle.deadlock.proofs.Cases.{with_one, standing}
 use Rattle.deadlock.proofs.evidence.knot.Goals as goal

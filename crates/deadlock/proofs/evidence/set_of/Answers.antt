@@ -1,6 +1,5 @@
 -- `set_of` meets its contract. The loop's invariant: the entries passed are in the set. Assumes nothing.
 use mathlib.Core.Path.{ap, ◌∙◌}
-use Prim.Native.Nat.{◌-◌}
 use native.Mathlib.Omega.{arith}
 use lib.Seq.{take_all}
 use Rattle.nodes.specs.Sets.{set_of}

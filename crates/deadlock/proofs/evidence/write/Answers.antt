@@ -1,6 +1,5 @@
 -- `write` meets its contract. The loop's invariant: the members passed stand in front, and the rest is as found. Assumes nothing.
 use mathlib.Core.Path.{◌≡◌}
-use Prim.Native.Nat.{◌-◌}
 use native.Mathlib.Omega.{arith}
 use borrow.Author.Rules.{rules}
 use Rattle.lemmas.proofs.Cases.{flag}
@@ -30,7 +29,7 @@ pub loop-k-preserved : goal.loop-k-preserved
 loop-k-preserved c = (
   omega arith,
   elim c.if-has.branch [
-    then-has w ↦ wrote_one _ _ _ _ _ c.loop-k.invariant.1 (flag c.has.ensures w.if-has.true) (omega arith) w.room-is w.at-is
+    | then-has w ↦ wrote_one _ _ _ _ _ c.loop-k.invariant.1 (flag c.has.ensures w.if-has.true) (omega arith) w.room-is w.at-is
     | else-has w ↦ wrote_skip _ _ _ _ _ c.loop-k.invariant.1 (flag c.has.ensures w.if-has.false) w.room-is w.at-is
   ],
 )

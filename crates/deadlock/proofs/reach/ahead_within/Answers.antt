@@ -1,6 +1,5 @@
 -- `ahead_within` meets its contract. The loop's invariant: t sweeps were made; one that reaches nobody new is the last that is needed. Assumes nothing.
 use mathlib.Core.Path.{◌≡◌, ap, sym, ◌∙◌}
-use Prim.Native.Nat.{◌-◌}
 use native.Mathlib.Omega.{arith}
 use borrow.Author.Tests.{eqb-true}
 use borrow.Author.Rules.{rules}

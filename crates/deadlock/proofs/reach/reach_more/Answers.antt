@@ -1,6 +1,5 @@
 -- `reach_more` meets its contract. The loop's invariant: the nodes passed were visited in turn. Assumes nothing.
 use mathlib.Core.Path.{ap, sym, ◌∙◌}
-use Prim.Native.Nat.{◌-◌}
 use native.Mathlib.Omega.{arith}
 use borrow.Author.Rules.{rules}
 use Rattle.lemmas.proofs.Cases.{flag}
@@ -27,7 +26,7 @@ loop-k-smaller c = omega arith
 pub loop-k-preserved : goal.loop-k-preserved
 loop-k-preserved c = (
   elim c.if-has.branch [
-    then-has w ↦ ap num w.reached-is ∙ sweep_more _ _ _ _ _ c.loop-k.invariant.0 (w.union-reached.ensures ∙ ap (union _) (out_within _ _ _ w.meet.ensures w.out_of.ensures c.row_at-row.ensures) ∙ reaching_yes _ _ _ _ (flag c.has.ensures w.if-has.true))
+    | then-has w ↦ ap num w.reached-is ∙ sweep_more _ _ _ _ _ c.loop-k.invariant.0 (w.union-reached.ensures ∙ ap (union _) (out_within _ _ _ w.meet.ensures w.out_of.ensures c.row_at-row.ensures) ∙ reaching_yes _ _ _ _ (flag c.has.ensures w.if-has.true))
     | else-has w ↦ ap num w.reached-is ∙ sweep_more _ _ _ _ _ c.loop-k.invariant.0 (reaching_no _ _ _ _ (flag c.has.ensures w.if-has.false))
   ],
   omega arith,

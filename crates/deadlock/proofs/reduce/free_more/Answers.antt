@@ -1,6 +1,5 @@
 -- `free_more` meets its contract. The loop's invariant: the nodes passed were visited in turn. Assumes nothing.
 use mathlib.Core.Path.{ap, sym, ◌∙◌}
-use Prim.Native.Nat.{◌-◌}
 use native.Mathlib.Omega.{arith}
 use borrow.Author.Rules.{rules}
 use Rattle.lemmas.proofs.Cases.{flag}
@@ -25,7 +24,7 @@ loop-k-smaller c = omega arith
 pub loop-k-preserved : goal.loop-k-preserved
 loop-k-preserved c = (
   elim c.if-joins.branch [
-    then-joins w ↦ ap num w.freed-is ∙ sweep_more _ _ _ _ _ c.loop-k.invariant.0 (w.with-freed.ensures ∙ joins _ _ _ (flag c.joins.ensures w.if-joins.true))
+    | then-joins w ↦ ap num w.freed-is ∙ sweep_more _ _ _ _ _ c.loop-k.invariant.0 (w.with-freed.ensures ∙ joins _ _ _ (flag c.joins.ensures w.if-joins.true))
     | else-joins w ↦ ap num w.freed-is ∙ sweep_more _ _ _ _ _ c.loop-k.invariant.0 (joins_not _ _ _ (flag c.joins.ensures w.if-joins.false))
   ],
   omega arith,

@@ -1,6 +1,5 @@
 -- `freed` meets its contract. The loop's invariant: t sweeps were made; one that frees nobody is the last that is needed. Assumes nothing.
 use mathlib.Core.Path.{◌≡◌, sym, ◌∙◌}
-use Prim.Native.Nat.{◌-◌}
 use native.Mathlib.Omega.{arith}
 use borrow.Author.Tests.{eqb-true}
 use borrow.Author.Rules.{rules}

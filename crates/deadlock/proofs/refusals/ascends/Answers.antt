@@ -1,6 +1,5 @@
 -- `ascends` meets its contract. The loop's invariant: the answer is that of the entries from the one before on. Assumes nothing.
 use mathlib.Core.Path.{refl}
-use Prim.Native.Nat.{◌-◌}
 use native.Mathlib.Omega.{arith}
 use Rattle.lemmas.proofs.Ascending.{ascending_passed, ascending_broken, ascending_ended}
 use Rattle.deadlock.proofs.refusals.ascends.Goals as goal

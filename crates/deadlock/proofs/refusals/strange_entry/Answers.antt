@@ -1,6 +1,5 @@
 -- `strange_entry` meets its contract. The loop's invariant: the answer is that of the entries from here on. Assumes nothing.
 use mathlib.Core.Path.{refl}
-use Prim.Native.Nat.{◌-◌}
 use native.Mathlib.Omega.{arith}
 use Rattle.lemmas.proofs.Any.{any_passed, any_found, any_ended}
 use Rattle.deadlock.specs.Refusals.{strange_entry}
