@@ -1,6 +1,5 @@
 -- `number_in` meets its contract. Assumes nothing.
 use mathlib.Core.Path.{sym, ◌∙◌}
-use Prim.Native.Nat.{◌-◌}
 use native.Mathlib.Omega.{arith}
 use borrow.Author.Rules.{rules}
 use Rattle.fields.proofs.Digits.{number_empty, digits_start, digits_next, digits_strange, digits_end}

@@ -1,6 +1,5 @@
 -- `set_in` meets its contract. Assumes nothing.
 use mathlib.Core.Path.{sym, ◌∙◌}
-use Prim.Native.Nat.{◌-◌}
 use native.Mathlib.Omega.{arith}
 use Rattle.fields.proofs.Gathering.{set_empty, gathering_start, gathering_wrong, gathering-place, gathering-next, gathering_all}
 use Rattle.fields.proofs.sets.set_in.Goals as goal

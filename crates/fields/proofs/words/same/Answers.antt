@@ -1,6 +1,5 @@
 -- `same` meets its contract. Assumes nothing.
 use mathlib.Core.Path.{refl}
-use Prim.Native.Nat.{◌-◌}
 use native.Mathlib.Omega.{arith}
 use borrow.Author.Rules.{rules}
 use Rattle.fields.proofs.Spelling.{same_length, same_next, same_differs, same_ended}
