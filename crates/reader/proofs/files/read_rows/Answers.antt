@@ -1,6 +1,5 @@
 -- `read_rows` meets its contract. Assumes nothing.
 use mathlib.Core.Path.{refl, sym, ◌∙◌}
-use Prim.Native.Nat.{◌-◌}
 use native.Mathlib.Omega.{arith}
 use Rattle.reader.proofs.Storing.{storing_start, storing_broken, storing_next, storing_all}
 use Rattle.reader.proofs.files.read_rows.Goals as goal
