@@ -1,5 +1,4 @@
 -- `fields_fault` meets its contract. Assumes nothing.
-use Prim.Native.Nat.{◌-◌}
 use native.Mathlib.Omega.{arith}
 use borrow.Author.Rules.{rules}
 use Rattle.faults.proofs.Walking.{fields_start, fields_more, fields-wrong, fields-next, fields_missing, fields_all}

@@ -1,6 +1,5 @@
 -- `line_at` meets its contract. Assumes nothing.
 use mathlib.Core.Path.{refl}
-use Prim.Native.Nat.{◌-◌}
 use native.Mathlib.Omega.{arith}
 use Rattle.faults.proofs.Standing.{ahead_here, ahead_next, ahead_none}
 use Rattle.faults.proofs.finding.line_at.Goals as goal

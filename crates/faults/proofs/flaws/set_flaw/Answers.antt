@@ -1,5 +1,4 @@
 -- `set_flaw` meets its contract. Assumes nothing.
-use Prim.Native.Nat.{◌-◌}
 use native.Mathlib.Omega.{arith}
 use borrow.Author.Rules.{rules}
 use Rattle.faults.proofs.Walking.{set_empty, members_start, member_wrong, member_placed, member_next, members_all}

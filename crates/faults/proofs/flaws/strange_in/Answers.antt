@@ -1,6 +1,5 @@
 -- `strange_in` meets its contract. Assumes nothing.
 use mathlib.Core.Path.{refl}
-use Prim.Native.Nat.{◌-◌}
 use native.Mathlib.Omega.{arith}
 use borrow.Author.Rules.{rules}
 use Rattle.lemmas.proofs.Any.{any_passed, any_found, any_ended}
