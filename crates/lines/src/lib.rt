@@ -1,5 +1,6 @@
 // The lines that the programs answer with, written into lent bytes.
 #![tactic(auto)]
+
 ghost use Rattle.std.specs.Prelude.{◌≡◌, ◌≤◌, length, take};
 ghost use Rattle.text.specs.Text.{text, write};
 ghost use Rattle.lines.specs.Lines.{field as field_of, name_of, answer_line, answer_lines, kind_name, message_line, refused_line, no_script_line};

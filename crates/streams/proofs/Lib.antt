@@ -1,2 +1,1 @@
--- What was moved.
-pub mod Within
+-- No lemmas.

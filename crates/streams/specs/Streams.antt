@@ -7,10 +7,10 @@ use Rattle.streams.specs.declared.Done.TheVariants.{Failed as Done-as-Failed, In
 
 -- no more than there is room for
 unfoldable pub Within : ℕ → Input → Type 0
-Within room Failed = Unit {0}
+Within room (Failed e) = Unit {0}
 Within room (Bytes n) = n ≤ room
 
 unfoldable pub DoneWithin : ℕ → Done → Type 0
-DoneWithin room Done-as-Failed = Unit {0}
-DoneWithin room Interrupted = Unit {0}
+DoneWithin room (Done-as-Failed e) = Unit {0}
+DoneWithin room (Interrupted e) = Unit {0}
 DoneWithin room (Done-as-Bytes n) = n ≤ room
