@@ -1,1 +1,2 @@
--- No lemmas.
+-- What was moved.
+pub mod Moved

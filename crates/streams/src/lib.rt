@@ -1,9 +1,10 @@
 // Standard input and standard output, whole: a read or a write that fails is never taken for an end.
 #![tactic(auto)]
 
-ghost use Rattle.std.specs.Prelude.{◌-◌, ◌≤◌, length};
+ghost use Rattle.std.specs.Prelude.{◌≡◌, ◌-◌, ◌≤◌, length, take, drop, ℕ, OnOk, OnErr};
 ghost use Rattle.std.specs.Io.{ReadsAtMost};
-ghost use Rattle.streams.specs.Streams.{Within, DoneWithin};
+ghost use Rattle.std.specs.Io.KnownBytes.{Appends};
+ghost use Rattle.streams.specs.Streams.{Within, DoneWithin, Judges, Took, DoneTook, DonePut};
 
 use std::io;
 use std::io::{Cursor, Error, ErrorKind, Read, Write};
@@ -31,10 +32,11 @@ enum Done {
 }
 
 // What a call on these bytes did that answered so.
-#[tactic(auto, unfolding(crate::specs::Streams::DoneWithin))]
+#[tactic(auto, unfolding(crate::specs::Streams::DoneWithin, crate::specs::Streams::Judges))]
 fn judged(answer: io::Result<usize>, part: &[u8]) -> Done
     requires { ReadsAtMost answer part.now }
-    ensures { DoneWithin (length part.now) result }
+    ensures within { DoneWithin (length part.now) result }
+    ensures judges { Judges answer result }
 {
     match answer {
         Ok(n) => Done::Bytes(n),
@@ -50,7 +52,9 @@ fn judged(answer: io::Result<usize>, part: &[u8]) -> Done
 // One read, into the room from a place on.
 fn read_from<R: Read>(input: &mut R, room: &mut [u8], from: usize) -> Done
     requires { from ≤ length room.old }
-    ensures { DoneWithin (length room.new - from) result }
+    ensures within { DoneWithin (length room.new - from) result }
+    ensures before { take from room.new ≡ take from room.old }
+    ensures took { DoneTook (R.remaining input.old) (R.remaining input.new) (drop from room.new) result }
 {
     let answer = input.read(&mut room[from..]);
     judged(answer, &room[from..])
@@ -59,7 +63,8 @@ fn read_from<R: Read>(input: &mut R, room: &mut [u8], from: usize) -> Done
 // One write, of the text from a place on.
 fn write_from<W: Write>(output: &mut W, text: &[u8], from: usize) -> Done
     requires { from ≤ length text.now }
-    ensures { DoneWithin (length text.now - from) result }
+    ensures within { DoneWithin (length text.now - from) result }
+    ensures put { DonePut (W.contents output.old) (W.contents output.new) (drop from text.now) result }
 {
     let answer = output.write(&text[from..]);
     judged(answer, &text[from..])
@@ -68,7 +73,8 @@ fn write_from<W: Write>(output: &mut W, text: &[u8], from: usize) -> Done
 // Reads until the input ends or the room is full.
 #[tactic(auto, unfolding(crate::specs::Streams::Within, crate::specs::Streams::DoneWithin))]
 pub fn read_all<R: Read>(input: &mut R, room: &mut [u8]) -> Input
-    ensures { Within (length room.new) result }
+    ensures within { Within (length room.new) result }
+    ensures took { Took (R.remaining input.old) (R.remaining input.new) room.new result }
 {
     let mut done: usize = 0;
     let mut tries: usize = TRIES;
@@ -95,7 +101,10 @@ pub fn read_all<R: Read>(input: &mut R, room: &mut [u8]) -> Input
 
 // Writes all of a text, or answers with the error; that a write took nothing is one too.
 #[tactic(auto, unfolding(crate::specs::Streams::DoneWithin))]
-pub fn write_all<W: Write>(output: &mut W, text: &[u8]) -> io::Result<()> {
+pub fn write_all<W: Write>(output: &mut W, text: &[u8]) -> io::Result<()>
+    ensures whole { OnOk result (Appends (W.contents output.old) (W.contents output.new) text.now) }
+    ensures part { OnErr result ((n : ℕ) × Appends (W.contents output.old) (W.contents output.new) (take n text.now)) }
+{
     let mut done: usize = 0;
     let mut tries: usize = TRIES;
     while done < text.len() {
