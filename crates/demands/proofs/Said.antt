@@ -21,7 +21,7 @@ use Rattle.waits.specs.Numbers.{first_said}
 use Rattle.waits.proofs.Table.{refused_not_accepted}
 use Rattle.step.specs.declared.answers.Answer.{Answer}
 use Rattle.step.specs.declared.answers.Answer.TheVariants.{Refused as Answer-as-Refused}
-use Rattle.step.specs.Step.{Seen, Outcome, seen_in, open_round, stray, receive}
+use Rattle.step.specs.Step.{Seen, Outcome, seen_in, open_round, receive}
 use Rattle.step.proofs.Answered.{Plain, open_answer, receive_answer}
 use Rattle.lent.specs.declared.steps.Step.{Step}
 use Rattle.lent.specs.Kept.{state_at}

@@ -18,7 +18,7 @@ use Rattle.script.specs.Script.{most, most_numbers, longest, Script, Meant, scri
 use Rattle.script.specs.Script.Meant.{NoScript, IsScript}
 use Rattle.script.proofs.Triples.{steps_length}
 use Rattle.script.proofs.Parsing.{plain, meant_script, meant_none, some_read}
-use Rattle.script.proofs.Shapes.{from, room, count, rest, script, shape, Passed, is_script, passed_numbers}
+use Rattle.script.proofs.Shapes.{from, count, rest, script, shape, Passed, is_script, passed_numbers}
 use Rattle.script.proofs.Told.{not_none, no_shape, told_passed}
 
 -- a script, where its parts stand, and how large they are

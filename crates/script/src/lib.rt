@@ -1,5 +1,6 @@
 // A script: its bytes, its numbers, its steps.
 #![tactic(auto)]
+
 mod numbers;
 mod script;
 mod steps;

@@ -1,5 +1,6 @@
 // Why bytes are no script, as one line of plain words.
 #![tactic(auto)]
+
 ghost use Rattle.std.specs.Prelude.{◌≡◌, replicate};
 ghost use Rattle.text.specs.Text.{text, write};
 ghost use Rattle.snags.specs.Snags.{snag_of, words_for, longest_words};

@@ -1,5 +1,6 @@
 // A script in, a text out: the script's steps are taken on a fresh bench, and the text says what came of them.
 #![tactic(auto)]
+
 ghost use Rattle.std.specs.Prelude.{◌≡◌, ◌+◌, ◌≤◌, length, take};
 ghost use Rattle.lent.specs.Kept.{most_records};
 ghost use Rattle.text.specs.Text.{text, write};

@@ -2,10 +2,8 @@
 -- as found. Assumes nothing.
 use mathlib.Core.Path.{◌∙◌, ◌≡◌, refl, ap}
 use mathlib.Core.List.{List}
-use Prim.Native.Nat.{ℕ, ◌-◌}
+use Prim.Native.Nat.{ℕ}
 use native.Mathlib.Omega.{arith}
-use lib.ListN.{length}
-use borrow.Author.Rules.{scaled_Fits}
 use Rattle.text.specs.Text.{Text, write}
 use Rattle.text.proofs.Pieces.{first_next, first_none}
 use Rattle.lent.specs.Coded.{message_of}

@@ -1,8 +1,6 @@
 -- `read` meets its contract. The loop's invariant: what was stored and counted, and what the rest of the text says, are what the
 -- whole text says. Assumes nothing.
-use mathlib.Core.Logic.{⊎_elim}
 use mathlib.Core.Path.{sym, ◌∙◌}
-use Prim.Native.Nat.{◌-◌}
 use native.Mathlib.Omega.{arith}
 use borrow.Author.Rules.{rules}
 use Rattle.lemmas.proofs.Cases.{flag}
@@ -35,7 +33,7 @@ pub loop-i-preserved : goal.loop-i-preserved
 loop-i-preserved c = (
   omega arith,
   elim c.if-blank.branch [
-    then-blank w ↦ rw (w.numbers-is, w.count-is, w.p-is) (reading_blank _ _ _ _ _ _ c.loop-i.invariant.1 c.loop-i-test.true (flag c.blank.ensures w.if-blank.true) w.end-count.ensures)
+    | then-blank w ↦ rw (w.numbers-is, w.count-is, w.p-is) (reading_blank _ _ _ _ _ _ c.loop-i.invariant.1 c.loop-i-test.true (flag c.blank.ensures w.if-blank.true) w.end-count.ensures)
     | else-blank+in-Number w ↦ rw (w.numbers-is, w.count-is, w.p-is) (reading_grown _ _ _ _ _ _ c.loop-i.invariant.1 c.loop-i-test.true (flag c.blank.ensures w.if-blank.false) w.so_far.ensures _ (sym w.in-Number.is ∙ w.grown-next.ensures))
   ],
 )

@@ -1,6 +1,5 @@
 -- `code_steps` meets its contract. The loop's invariant: the steps that are left make of the list what all of them make of the list
 -- as found. Assumes nothing.
-use Prim.Native.Nat.{◌-◌}
 use native.Mathlib.Omega.{arith}
 use Rattle.script.proofs.Triples.{coding_start, coding_good, coding_next, coding_all}
 use Rattle.script.proofs.steps.code_steps.Goals as goal

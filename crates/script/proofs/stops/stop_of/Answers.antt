@@ -1,7 +1,5 @@
 -- `stop_of` meets its contract. The loop's invariant: the rest of the text, from this line on, stops where the whole text does. Assumes nothing.
 use mathlib.Core.Path.{sym, ◌∙◌}
-use mathlib.Core.Logic.{⊎_elim}
-use Prim.Native.Nat.{◌-◌}
 use native.Mathlib.Omega.{arith}
 use borrow.Author.Rules.{rules}
 use Rattle.lemmas.proofs.Cases.{flag}
@@ -31,7 +29,7 @@ pub loop-i-preserved : goal.loop-i-preserved
 loop-i-preserved c = (
   omega arith,
   elim c.if-blank.branch [
-    then-blank w ↦ rw (w.line-is, w.p-is) (walk_blank _ _ _ _ c.loop-i.invariant.1 c.loop-i-test.true (flag c.blank.ensures w.if-blank.true) w.line_after-line.ensures)
+    | then-blank w ↦ rw (w.line-is, w.p-is) (walk_blank _ _ _ _ c.loop-i.invariant.1 c.loop-i-test.true (flag c.blank.ensures w.if-blank.true) w.line_after-line.ensures)
     | else-blank+in-Number w ↦ rw (w.line-is, w.p-is) (walk_grown _ _ _ _ c.loop-i.invariant.1 c.loop-i-test.true (flag c.blank.ensures w.if-blank.false) w.so_far.ensures _ (sym w.in-Number.is ∙ w.grown-next.ensures))
   ],
 )

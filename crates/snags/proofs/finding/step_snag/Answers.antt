@@ -1,6 +1,5 @@
 -- `step_snag` meets its contract. The loop's invariant: the steps from here on, numbered on, have the snag that all have. Assumes nothing.
 use mathlib.Core.Path.{refl}
-use Prim.Native.Nat.{◌-◌}
 use native.Mathlib.Omega.{arith}
 use Rattle.snags.proofs.Steps.{step_none, step_kind, step-first, step-second, step-next}
 use Rattle.snags.proofs.finding.step_snag.Goals as goal
