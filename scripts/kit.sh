@@ -1,20 +1,19 @@
-# Sourced by the commands of this repository: finds the Rattle kit, or says what is missing.
+# Sourced by the commands of this repository: finds the Rattle kit, or says what is missing, and how a program is started.
 if ! command -v rt >/dev/null; then
     echo "$(basename "$0"): the Rattle kit's command rt is not on the PATH; install the kit, or add its folder bin to the PATH" >&2
     exit 2
 fi
-kit=${RATTLE_HOME:-$(dirname "$(dirname "$(readlink -f "$(command -v rt)")")")}
 
 # The command that builds a program, or which programs there are.
 how_to_build() { # NAME
     if [ -e "crates/$1/src/main.rt" ]; then
-        echo "target/bin/$1 is missing; build it with: rt check $1"
+        echo "target/bin/$1 is missing; build it with: scripts/build $1"
         return
     fi
     local file
     for file in "examples/$1.c" "tests/$1.c"; do
         if [ -e "$file" ]; then
-            echo "target/c/$1 is missing; build it with: rt staticlib coldroom && scripts/cc $1 $file"
+            echo "target/c/$1 is missing; build it with: scripts/build coldroom && scripts/cc $1 $file"
             return
         fi
     done
@@ -22,21 +21,14 @@ how_to_build() { # NAME
 }
 
 # How the proved program target/bin/NAME is started, or else the program of C target/c/NAME: as words in `started`. Programs are for
-# x86-64: on another processor the kit has an emulator.
+# x86-64, as the kit is.
 started=()
 words_for() { # NAME
-    local tools=$kit/on/$(uname -m)/toolchain
-    local emulator=$tools/bin/qemu-x86_64 program=target/bin/$1
+    local program=target/bin/$1
     [ -e "$program" ] || program=target/c/$1
     if [ ! -e "$program" ]; then
         echo "$(basename "$0"): $(how_to_build "$1")" >&2
         return 2
     fi
-    started=("$tools/lib/ld-linux-x86-64.so.2" --library-path "$tools/lib" "$program")
-    if [ -x "$emulator" ]; then
-        started=("$emulator" "${started[@]}")
-    elif [ "$program" = "target/c/$1" ]; then
-        # What this machine's own gcc has linked runs with this machine's own libraries.
-        started=("$program")
-    fi
+    started=("$program")
 }
