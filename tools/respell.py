@@ -51,7 +51,9 @@ def declared(text):
 def table(texts):
     own = set()
     for path, text in texts.items():
-        if path.endswith(".antt") and os.path.basename(path) not in PLACED:
+        # A file of this name in proofs/ declares what Rattle names.
+        made = "/proofs/" in path and os.path.basename(path) in PLACED
+        if path.endswith(".antt") and not made:
             own |= declared(text)
         own |= set(ALIAS.findall(text))
     turned = dict(MENDED)

@@ -17,7 +17,7 @@ use Rattle.step.specs.declared.answers.Verdict.{Verdict}
 use Rattle.step.specs.declared.answers.Answer.TheVariants.{Opened}
 use Rattle.step.specs.Step.{Outcome, seen_in, open_round}
 use Rattle.step.specs.Letters.{letters_of}
-use Rattle.step.specs.Answers.{saidAtOnce}
+use Rattle.step.specs.Answers.{said_at_once}
 use Rattle.step.proofs.AtOnce.{opens_saying, one_said}
 use Rattle.node.specs.Refusals.{check_open_of}
 use Rattle.node.specs.Calls.{own, unless_refused, open_of}
@@ -33,14 +33,14 @@ module _ (n : ℕ) (rows : List ℕ) (b : Bench) (s round : ℕ) (v : Verdict) w
   abbrev begun : Outcome
   begun = open_round (seen_in (waits_of n rows) s) round
 
-  pub on_bench : (step_on n rows b (opening s round)).answer ≡ Opened v → v ≡ saidAtOnce (seen_in (waits_of n rows) s)
+  pub on_bench : (step_on n rows b (opening s round)).answer ≡ Opened v → v ≡ said_at_once (seen_in (waits_of n rows) s)
   unfolding step_on take_step open_at join no_node
   on_bench =
       go (strange_bench n rows b) (no_node n s) (cannot_open b.highest round) (ltb (room b) (b.sent + length (letters_of s begun.state.round begun.sends))) refl refl _
     where
       go : (p q r t : Bool) → strange_bench n rows b ≡ p → no_node n s ≡ q → (next : Bench)
           → (cond p (refuse 13 b) (cond q (refuse 9 b) (cond r (refuse 10 b) (cond t (refuse 12 b) (after next begun.answer))))).answer ≡ Opened v
-          → v ≡ saidAtOnce (seen_in (waits_of n rows) s)
+          → v ≡ said_at_once (seen_in (waits_of n rows) s)
       go true q r t e f next h = absurd (false≢true (ap accepted h))
       go false true r t e f next h = absurd (false≢true (ap accepted h))
       go false false true t e f next h = absurd (false≢true (ap accepted h))
@@ -53,12 +53,12 @@ module _ (n : ℕ) (rows : List ℕ) (b : Bench) (s round : ℕ) (v : Verdict) w
 -- ---- of a controller: it isn't refused, so its row is fine
 module _ (n me : ℕ) (row : List ℕ) (ins : ℕ) (s : State) (round : ℕ) (v : Verdict) where
   by_itself_lem : (c : Checked) → check_open_of n me row ins s round ≡ c → (unless_refused s (open_round (own me row ins) round) c).answer ≡ Opened v
-      → v ≡ saidAtOnce (own me row ins)
+      → v ≡ said_at_once (own me row ins)
   by_itself_lem (Refused r) e h = absurd (false≢true (ap accepted h))
   by_itself_lem Accepted e h =
       let ok = open_own n me row ins s round e in
       one_said (opens_saying (own me row ins) (active n me (row_at row 0) ok) (waiting n me (row_at row 0) ok) round) h
 
-  pub of_controller : (open_of n me row ins s round).answer ≡ Opened v → v ≡ saidAtOnce (own me row ins)
+  pub of_controller : (open_of n me row ins s round).answer ≡ Opened v → v ≡ said_at_once (own me row ins)
   unfolding open_of
   of_controller = by_itself_lem (check_open_of n me row ins s round) refl

@@ -10,7 +10,7 @@ use Rattle.waits.specs.Numbers.{check_of}
 use Rattle.step.specs.declared.answers.Verdict.{Verdict}
 use Rattle.step.specs.declared.answers.Answer.TheVariants.{Opened}
 use Rattle.step.specs.Step.{seen_in, open_round, receive}
-use Rattle.step.specs.Answers.{saidAtOnce}
+use Rattle.step.specs.Answers.{said_at_once}
 use Rattle.node.specs.Calls.{own, open_of, deliver_of}
 use Rattle.lent.specs.declared.steps.Step.{Step}
 use Rattle.lent.specs.Kept.{state_at}
@@ -34,6 +34,6 @@ pub record Alone (n : ℕ) (rows : List ℕ) : Type 0 where
       ≡ receive (seen_in (waits_of n rows) i) (state_at b.records i) (letter_at b k)
   -- An opening says nothing at once, but of an active node that nobody waits on, whatever row and IN it is told.
   pub at_once : (me : ℕ) (row : List ℕ) (ins : ℕ) (s : State) (round : ℕ) (v : Verdict) → (open_of n me row ins s round).answer ≡ Opened v
-      → v ≡ saidAtOnce (own me row ins)
+      → v ≡ said_at_once (own me row ins)
   -- Every bench that was worked from a fresh start, over an accepted graph, is one.
   pub worked : check_of n rows ≡ Accepted → (messages : List ℕ) (steps : List Step) → Good n rows (after_steps n rows (fresh n messages) steps)

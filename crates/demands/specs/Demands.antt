@@ -35,7 +35,7 @@ use Rattle.step.specs.declared.answers.Verdict.{Verdict}
 use Rattle.step.specs.declared.answers.Verdict.TheVariants.{Deadlocked as Verdict-as-Deadlocked}
 use Rattle.step.specs.declared.answers.Answer.TheVariants.{Refused as Answer-as-Refused, Opened as Answer-as-Opened}
 use Rattle.step.specs.Step.{seen_in, still}
-use Rattle.step.specs.Answers.{saidAtOnce}
+use Rattle.step.specs.Answers.{said_at_once}
 use Rattle.node.specs.Refusals.{open_lines, deliver_lines}
 use Rattle.node.specs.Calls.{open_of, deliver_of}
 use Rattle.lent.specs.declared.steps.Step.{Step}
@@ -141,7 +141,7 @@ module _ (n : ℕ) (rows : List ℕ) where
       pub as_numbers : (round own : ℕ) → ((behind round own ≡ true) ↔ (round < own)) × ((ahead round own ≡ true) ↔ (own < round))
       -- The paper: a node sees only its own row and IN. So an opening says nothing, but of an active node that nobody waits on.
       pub at_once : (b : Bench) (s round : ℕ) (v : Verdict) → (step_on n rows b (opening s round)).answer ≡ Answer-as-Opened v
-          → v ≡ saidAtOnce (seen_in w s)
+          → v ≡ said_at_once (seen_in w s)
       -- "no round ever gives a false verdict": what is said in a round, once at most, is said by the node that opened it, and is right of
       -- that node.
       pub opener : (t : Turn) → Memᴰ t past → (v : Verdict) → Memᴰ v (verdict_in t.gave.answer) → Opened past (node_of (event_of t)) (round_of (event_of t))

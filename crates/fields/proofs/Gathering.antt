@@ -27,35 +27,35 @@ use Rattle.format.specs.Fields.{number_of, in_front, numbers_of, members_of, no_
 use Rattle.fields.specs.declared.numbers.Numbered.TheVariants.{NoNumber, Number}
 use Rattle.fields.specs.declared.sets.Gathered.TheVariants.{NoSet, Members}
 use Rattle.fields.specs.Ends.{up_to, pieces_from}
-use Rattle.fields.specs.Answers.{numbered, memberOf, gathered}
+use Rattle.fields.specs.Answers.{numbered, member_of, gathered}
 use Rattle.fields.proofs.Finding.{pieces_start, pieces_none, pieces_next}
 use Rattle.fields.proofs.Told.{no_number_lem, same_number, told_none, told_number}
 
 -- ---- one member
 module _ (lowest : ℕ) where
-  pub member_none : (o : Option ℕ) → NoNumber ≡ numbered o → NoNumber ≡ memberOf lowest o
-  unfolding memberOf
-  member_none o e = ap (memberOf lowest) (sym (told_none o e))
+  pub member_none : (o : Option ℕ) → NoNumber ≡ numbered o → NoNumber ≡ member_of lowest o
+  unfolding member_of
+  member_none o e = ap (member_of lowest) (sym (told_none o e))
 
   module _ {m : ℕ} where
-    so : (o : Option ℕ) → Number m ≡ numbered o → memberOf lowest (some m) ≡ memberOf lowest o
-    so o e = ap (memberOf lowest) (sym (told_number o e))
+    so : (o : Option ℕ) → Number m ≡ numbered o → member_of lowest (some m) ≡ member_of lowest o
+    so o e = ap (member_of lowest) (sym (told_number o e))
 
-    pub member_low : (o : Option ℕ) → Number m ≡ numbered o → m < lowest → NoNumber ≡ memberOf lowest o
-    unfolding memberOf
+    pub member_low : (o : Option ℕ) → Number m ≡ numbered o → m < lowest → NoNumber ≡ member_of lowest o
+    unfolding member_of
     member_low o e h = at_false (Number m) (and_first (ltb m places) (lt-leb lowest m h)) refl ∙ so o e
 
-    pub member_high : (o : Option ℕ) → Number m ≡ numbered o → places ≤ m → NoNumber ≡ memberOf lowest o
-    unfolding memberOf
+    pub member_high : (o : Option ℕ) → Number m ≡ numbered o → places ≤ m → NoNumber ≡ member_of lowest o
+    unfolding member_of
     member_high o e h = at_false (Number m) (and_later (leb lowest m) (le-ltb m places h)) refl ∙ so o e
 
-    pub member_is : (o : Option ℕ) → Number m ≡ numbered o → lowest ≤ m → m < places → Number m ≡ memberOf lowest o
-    unfolding memberOf
+    pub member_is : (o : Option ℕ) → Number m ≡ numbered o → lowest ≤ m → m < places → Number m ≡ member_of lowest o
+    unfolding member_of
     member_is o e l h = at_true NoNumber (and_intro (leb lowest m) (ltb m places) (le-leb lowest m l) (lt-ltb m places h)) refl ∙ so o e
 
   -- ---- and back
-  wrong_member : (m : ℕ) → NoNumber ≡ memberOf lowest (some m) → (m < lowest) ⊎ (places ≤ m)
-  unfolding memberOf
+  wrong_member : (m : ℕ) → NoNumber ≡ member_of lowest (some m) → (m < lowest) ⊎ (places ≤ m)
+  unfolding member_of
   wrong_member m e =
       ⊎_elim
       (λ (l : leb lowest m ≡ true).
@@ -72,8 +72,8 @@ module _ (lowest : ℕ) where
     pub above : lowest ≤ m
     pub placed : m < places
 
-  right_member : (m : ℕ) (o : Option ℕ) → Number m ≡ memberOf lowest o → Right m o
-  unfolding memberOf
+  right_member : (m : ℕ) (o : Option ℕ) → Number m ≡ member_of lowest o → Right m o
+  unfolding member_of
   right_member m none e = no_number_lem (sym e)
   right_member m (some n) e =
       ⊎_elim
@@ -178,8 +178,8 @@ module _ (w : List ℕ) (s : Set) (lowest at : ℕ) (g : Gathering w s lowest at
     unfolding numbers_left numbers_of
     split = g.left ∙ ap (λ (ps : List (List ℕ)). prepend g.done (numbers_of ps)) (pieces_next space w at end inside found)
 
-    wrong_so : (o : Option ℕ) → NoNumber ≡ memberOf lowest o → none ≡ set_of_these (prepend g.done (in_front o (numbers_left w (end + 1))))
-    unfolding prepend memberOf
+    wrong_so : (o : Option ℕ) → NoNumber ≡ member_of lowest o → none ≡ set_of_these (prepend g.done (in_front o (numbers_left w (end + 1))))
+    unfolding prepend member_of
     wrong_so none e = refl
     wrong_so (some m) e =
         refused_so g.done m
@@ -193,11 +193,11 @@ module _ (w : List ℕ) (s : Set) (lowest at : ℕ) (g : Gathering w s lowest at
         (wrong_member lowest m e))
         (numbers_left w (end + 1))
 
-    pub gathering_wrong : NoNumber ≡ memberOf lowest (number_of (take (end - at) (drop at w))) → NoSet ≡ gathered (set_in w)
+    pub gathering_wrong : NoNumber ≡ member_of lowest (number_of (take (end - at) (drop at w))) → NoSet ≡ gathered (set_in w)
     unfolding set_in gathered
     gathering_wrong e = ap gathered (wrong_so (number_of (take (end - at) (drop at w))) e ∙ ap set_of_these (sym split))
 
-    module _ {m : ℕ} (e : Number m ≡ memberOf lowest (number_of (take (end - at) (drop at w)))) where
+    module _ {m : ℕ} (e : Number m ≡ member_of lowest (number_of (take (end - at) (drop at w)))) where
       right : Right lowest m (number_of (take (end - at) (drop at w)))
       right = right_member lowest m (number_of (take (end - at) (drop at w))) e
 

@@ -13,7 +13,7 @@ use Rattle.lemmas.proofs.Tests.{and_intro, and_left, and_first, and_later}
 use Rattle.format.specs.Cut.{quote}
 use Rattle.format.specs.Fields.{quoted, bare, same}
 use Rattle.fields.specs.declared.words.Part.{Part}
-use Rattle.fields.specs.Answers.{bareAt}
+use Rattle.fields.specs.Answers.{bare_at}
 use Rattle.fields.proofs.Finding.{here}
 
 -- ---- quotes
@@ -24,24 +24,24 @@ module _ (w : List ℕ) where
   abbrev whole : Part
   whole = record { start = 0; end = length w }
 
-  unquoted : quoted w ≡ false → whole ≡ bareAt w
-  unfolding bareAt
+  unquoted : quoted w ≡ false → whole ≡ bare_at w
+  unfolding bare_at
   unquoted e = at_false inner e refl
 
-  pub bare_short : length w < 2 → whole ≡ bareAt w
+  pub bare_short : length w < 2 → whole ≡ bare_at w
   unfolding quoted
   bare_short h = unquoted (and_first _ (lt-leb 2 (length w) h))
 
-  pub bare_unopened : (get_or w 0 0 ≡ quote → ⊥) → whole ≡ bareAt w
+  pub bare_unopened : (get_or w 0 0 ≡ quote → ⊥) → whole ≡ bare_at w
   unfolding quoted
   bare_unopened n = unquoted (and_later (leb 2 (length w)) (and_first _ (ne_eqb (get_or w 0 0) quote n)))
 
-  pub bare_unclosed : (get_or w (length w - 1) 0 ≡ quote → ⊥) → whole ≡ bareAt w
+  pub bare_unclosed : (get_or w (length w - 1) 0 ≡ quote → ⊥) → whole ≡ bare_at w
   unfolding quoted
   bare_unclosed n = unquoted (and_later (leb 2 (length w)) (and_later (eqb (get_or w 0 0) quote) (ne_eqb (get_or w (length w - 1) 0) quote n)))
 
-  pub bare_quoted : 2 ≤ length w → get_or w 0 0 ≡ quote → get_or w (length w - 1) 0 ≡ quote → inner ≡ bareAt w
-  unfolding quoted bareAt
+  pub bare_quoted : 2 ≤ length w → get_or w 0 0 ≡ quote → get_or w (length w - 1) 0 ≡ quote → inner ≡ bare_at w
+  unfolding quoted bare_at
   bare_quoted h a b =
       at_true whole
       (and_intro (leb 2 (length w)) _ (le-leb 2 (length w) h)
@@ -54,9 +54,9 @@ pub record PartIs (w t : List ℕ) (p : Part) : Type 0 where
   pub order : p.start ≤ p.end
   pub inside : p.end ≤ length w
 
--- Law: the part that `bareAt` gives is the field without its quotes.
-pub bare_part : (w : List ℕ) → PartIs w (bare w) (bareAt w)
-unfolding quoted bare bareAt
+-- Law: the part that `bare_at` gives is the field without its quotes.
+pub bare_part : (w : List ℕ) → PartIs w (bare w) (bare_at w)
+unfolding quoted bare bare_at
 bare_part w = by (quoted w) refl
   where
     by : (q : Bool) → quoted w ≡ q → PartIs w (cond q (take (length w - 2) (drop 1 w)) w) (cond q (inner w) (whole w))
@@ -73,7 +73,7 @@ bare_part w = by (quoted w) refl
       inside = omega arith;
     }
 
-pub bare_is : (w : List ℕ) {p : Part} → p ≡ bareAt w → PartIs w (bare w) p
+pub bare_is : (w : List ℕ) {p : Part} → p ≡ bare_at w → PartIs w (bare w) p
 bare_is w e = subst (PartIs w (bare w)) (sym e) (bare_part w)
 
 -- ---- the same text

@@ -14,14 +14,14 @@ numbered none = NoNumber
 numbered (some n) = Number n
 
 -- a member that may come next: no lower than the lowest, and a set has a place for it
-unfoldable pub memberOf : (lowest : ℕ) → Option ℕ → Numbered
-memberOf lowest none = NoNumber
-memberOf lowest (some m) = cond (leb lowest m && ltb m places) (Number m) NoNumber
+unfoldable pub member_of : (lowest : ℕ) → Option ℕ → Numbered
+member_of lowest none = NoNumber
+member_of lowest (some m) = cond (leb lowest m && ltb m places) (Number m) NoNumber
 
 unfoldable pub gathered : Option ℕ → Gathered
 gathered none = NoSet
 gathered (some s) = Members (as_set s)
 
 -- where the text of a field stands in it: between its quotes, or all along where it isn't quoted
-unfoldable pub bareAt : List ℕ → Part
-bareAt w = cond (quoted w) (record { start = 1; end = length w - 1 }) (record { start = 0; end = length w })
+unfoldable pub bare_at : List ℕ → Part
+bare_at w = cond (quoted w) (record { start = 1; end = length w - 1 }) (record { start = 0; end = length w })

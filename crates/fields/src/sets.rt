@@ -1,7 +1,7 @@
 // A piece of text that is a set: its members ascending, one space between two.
 ghost use Rattle.std.specs.Prelude.{◌≡◌};
 ghost use Rattle.format.specs.Fields.{number_of, set_in};
-ghost use Rattle.fields.specs.Answers.{memberOf, gathered};
+ghost use Rattle.fields.specs.Answers.{member_of, gathered};
 
 use crate::ends::find;
 use crate::numbers::{Numbered, number_in};
@@ -15,7 +15,7 @@ pub enum Gathered {
 
 // The member that a piece of text is: a number that is no lower, and that a set has a place for.
 fn member(w: &[u8], lowest: u64) -> Numbered
-    ensures { result ≡ memberOf lowest (number_of w.now) }
+    ensures { result ≡ member_of lowest (number_of w.now) }
 {
     let n = number_in(w);
     let Numbered::Number(m) = n else {

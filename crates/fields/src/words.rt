@@ -1,7 +1,7 @@
 // A field without its quotes, and whether two texts are the same.
 ghost use Rattle.std.specs.Prelude.{◌≡◌};
 ghost use Rattle.format.specs.Fields.{same as same_of};
-ghost use Rattle.fields.specs.Answers.{bareAt};
+ghost use Rattle.fields.specs.Answers.{bare_at};
 
 // A part of a text: from start to before end.
 #[derive(Clone, Copy)]
@@ -12,7 +12,7 @@ pub struct Part {
 
 // The part of a field that stands between its quotes, or all of it where it isn't quoted.
 pub fn bare(w: &[u8]) -> Part
-    ensures { result ≡ bareAt w.now }
+    ensures { result ≡ bare_at w.now }
 {
     let end = w.len();
     if end < 2 {

@@ -15,7 +15,7 @@ use Rattle.reader.specs.declared.places.NumberAt.{NumberAt}
 use Rattle.reader.specs.declared.places.SetAt.{SetAt}
 use Rattle.reader.specs.declared.lines.RowRead.TheVariants.{NoRow, IsRow}
 use Rattle.reader.specs.Places.{left, place_after, number_at, set_at}
-use Rattle.reader.specs.Answers.{rowSaid}
+use Rattle.reader.specs.Answers.{row_said}
 use Rattle.reader.proofs.Taking.{left_start, done_at, rest_then, number_rest, number_value, set_rest, set_value}
 
 -- ---- the header: after its words, nothing is left
@@ -92,13 +92,13 @@ module _ (line : List ℕ) (k : ℕ) {node kind threshold : NumberAt} {set1 set2
     is_node : eqb taken1.value k ≡ eqb node.value k
     is_node = ap (λ (x : ℕ). eqb x k) (sym (number_value line _ (left_start line) n))
 
-    pub row_fields : (set4.next ≡ length line + 1 → ⊥) → NoRow ≡ rowSaid (row_of k line)
-    unfolding row_of rowSaid
-    row_fields h = ap rowSaid (at_false _ (and_first (eqb taken1.value k) (all_taken ∙ ne_eqb set4.next (length line + 1) h)) refl)
+    pub row_fields : (set4.next ≡ length line + 1 → ⊥) → NoRow ≡ row_said (row_of k line)
+    unfolding row_of row_said
+    row_fields h = ap row_said (at_false _ (and_first (eqb taken1.value k) (all_taken ∙ ne_eqb set4.next (length line + 1) h)) refl)
 
-    pub row_node : (node.value ≡ k → ⊥) → NoRow ≡ rowSaid (row_of k line)
-    unfolding row_of rowSaid
-    row_node h = ap rowSaid (at_false _ (and_later (done taken7.rest) (is_node ∙ ne_eqb node.value k h)) refl)
+    pub row_node : (node.value ≡ k → ⊥) → NoRow ≡ row_said (row_of k line)
+    unfolding row_of row_said
+    row_node h = ap row_said (at_false _ (and_later (done taken7.rest) (is_node ∙ ne_eqb node.value k h)) refl)
 
     pub row_is : set4.next ≡ length line + 1 → node.value ≡ k
         → IsRow
@@ -110,10 +110,10 @@ module _ (line : List ℕ) (k : ℕ) {node kind threshold : NumberAt} {set1 set2
           third = set3.value;
           fourth = set4.value;
         })
-        ≡ rowSaid (row_of k line)
-    unfolding row_of rowSaid
+        ≡ row_said (row_of k line)
+    unfolding row_of row_said
     row_is h i =
-        ap rowSaid
+        ap row_said
         (at_true none
         (and_intro (done taken7.rest) (eqb taken1.value k) (all_taken ∙ eq-eqb set4.next (length line + 1) h) (is_node ∙ eq-eqb node.value k i))
         (λ j. some

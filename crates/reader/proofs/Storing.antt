@@ -32,7 +32,7 @@ use Rattle.reader.specs.declared.lines.RowRead.TheVariants.{NoRow, IsRow}
 use Rattle.reader.specs.declared.files.Lines.{Lines}
 use Rattle.reader.specs.declared.files.Lines.TheVariants.{Broken as Lines-as-Broken, Rows as Lines-as-Rows}
 use Rattle.reader.specs.declared.files.Outcome.TheVariants.{Graph as Outcome-as-Graph}
-use Rattle.reader.specs.Answers.{rowSaid, numbers, LinesSay, zeros, fileSaid, checkedAs, graphJudged}
+use Rattle.reader.specs.Answers.{row_said, numbers, LinesSay, zeros, file_said, checked_as, graph_judged}
 
 -- ---- what an answer tells of a line
 no_row : {A : Type 0} {r : Row} → NoRow ≡ IsRow r → A
@@ -41,13 +41,13 @@ no_row e = absurd (let z : ◌≡◌ {A = ℕ} 0 1 = cc in omega arith)
 same_row : {q r : Row} → IsRow q ≡ IsRow r → q ≡ r
 same_row e = cc
 
-told_none : (o : Option Row) → NoRow ≡ rowSaid o → o ≡ none
-unfolding rowSaid
+told_none : (o : Option Row) → NoRow ≡ row_said o → o ≡ none
+unfolding row_said
 told_none none e = refl
 told_none (some r) e = no_row e
 
-told_row : {r : Row} (o : Option Row) → IsRow r ≡ rowSaid o → o ≡ some r
-unfolding rowSaid
+told_row : {r : Row} (o : Option Row) → IsRow r ≡ row_said o → o ≡ some r
+unfolding row_said
 told_row none e = no_row (sym e)
 told_row (some q) e = ap some (sym (same_row e))
 
@@ -87,12 +87,12 @@ module _ (file : List ℕ) (from : ℕ) (found rows : List ℕ) (at k : ℕ) (s 
         s.left ∙ ap (λ (ls : List (List ℕ)). behind s.read (rows_from k ls)) (lines_next file at end inside ends)
         ∙ ap (λ (o : Option Row). behind s.read (row_then (k + 2) o (rows_from (suc k) (lines_of (drop (end + 2) file))))) e
 
-    pub storing_broken : NoRow ≡ rowSaid (row_of k (take (end - at) (drop at file)))
+    pub storing_broken : NoRow ≡ row_said (row_of k (take (end - at) (drop at file)))
         → LinesSay (rows_from 0 (lines_of (drop from file))) found rows (Lines-as-Broken (k + 2))
     unfolding behind LinesSay
     storing_broken e = split (told_none _ e)
 
-    pub storing_next : {r : Row} {rows' : List ℕ} → IsRow r ≡ rowSaid (row_of k (take (end - at) (drop at file)))
+    pub storing_next : {r : Row} {rows' : List ℕ} → IsRow r ≡ row_said (row_of k (take (end - at) (drop at file)))
         → rows' ≡ sets rows (k * row_size) (row_numbers r) → Storing file from found rows' (end + 2) (k + 1)
     storing_next {r} e f = record {
       read = s.read ++ r ∷ [];
@@ -158,26 +158,26 @@ one_said n rows h =
 
 -- a graph of n rows, with their numbers stored as far as there are places
 module _ (n : ℕ) (rows stored : List ℕ) (count : length rows ≡ n * row_size) (front : stored ≡ sets zeros 0 rows) where
-  many : places < n → graphJudged n stored ≡ fileSaid (judged n rows (check_of n rows))
-  unfolding graphJudged fileSaid
-  many h = sym (at_true _ (lt-ltb places n h) refl) ∙ ap (λ (c : Checked). fileSaid (judged n rows c)) (one_said n rows h)
+  many : places < n → graph_judged n stored ≡ file_said (judged n rows (check_of n rows))
+  unfolding graph_judged file_said
+  many h = sym (at_true _ (lt-ltb places n h) refl) ∙ ap (λ (c : Checked). file_said (judged n rows c)) (one_said n rows h)
 
-  checked_said : (c : Checked) → checkedAs n stored c ≡ fileSaid (judged n rows c)
-  unfolding fileSaid
+  checked_said : (c : Checked) → checked_as n stored c ≡ file_said (judged n rows c)
+  unfolding file_said
   checked_said (Checked-as-Refused r) = refl
   checked_said Accepted = λ i. record { outcome = Outcome-as-Graph; nodes = n; rows = front i }
 
-  few : n ≤ places → graphJudged n stored ≡ fileSaid (judged n rows (check_of n rows))
-  unfolding graphJudged
+  few : n ≤ places → graph_judged n stored ≡ file_said (judged n rows (check_of n rows))
+  unfolding graph_judged
   few h =
       sym (at_false _ (le-ltb places n h) refl)
-      ∙ ap (λ (l : List ℕ). checkedAs n stored (check_of n l)) (ap (take (n * row_size)) front ∙ taken)
+      ∙ ap (λ (l : List ℕ). checked_as n stored (check_of n l)) (ap (take (n * row_size)) front ∙ taken)
       ∙ checked_said (check_of n rows)
     where
       taken : take (n * row_size) (sets zeros 0 rows) ≡ rows
       taken = front_taken zeros rows (sym count) (omega (arith, length-replicate {A = ℕ} numbers 0))
 
-  judged_said : graphJudged n stored ≡ fileSaid (judged n rows (check_of n rows))
+  judged_said : graph_judged n stored ≡ file_said (judged n rows (check_of n rows))
   judged_said =
       ⊎_elim
       (λ (t : ltb places n ≡ true). many (ltb-true places n t))
@@ -186,14 +186,14 @@ module _ (n : ℕ) (rows stored : List ℕ) (count : length rows ≡ n * row_siz
 
 -- ---- the file
 module _ (file left : List ℕ) {a : Lines} (s : LinesSay (meant_by file) zeros left a) where
-  pub file_broken : (line : ℕ) → a ≡ Lines-as-Broken line → fileSaid (Line line) ≡ fileSaid (read_of file)
+  pub file_broken : (line : ℕ) → a ≡ Lines-as-Broken line → file_said (Line line) ≡ file_said (read_of file)
   unfolding read_of LinesSay
-  file_broken line e = ap (λ (m : Meant). fileSaid (said_of m)) (sym (subst (λ (x : Lines). LinesSay (meant_by file) zeros left x) e s))
+  file_broken line e = ap (λ (m : Meant). file_said (said_of m)) (sym (subst (λ (x : Lines). LinesSay (meant_by file) zeros left x) e s))
 
-  pub file_rows : (n : ℕ) → a ≡ Lines-as-Rows n → graphJudged n left ≡ fileSaid (read_of file)
+  pub file_rows : (n : ℕ) → a ≡ Lines-as-Rows n → graph_judged n left ≡ file_said (read_of file)
   unfolding read_of LinesSay
   file_rows n e =
       let t = subst (λ (x : Lines). LinesSay (meant_by file) zeros left x) e s in
       judged_said n (flat t.0) left (omega (arith, flat_length t.0, t.2)) t.3
-      ∙ ap (λ (k : ℕ). fileSaid (judged k (flat t.0) (check_of k (flat t.0)))) t.2
-      ∙ ap (λ (m : Meant). fileSaid (said_of m)) (sym t.1)
+      ∙ ap (λ (k : ℕ). file_said (judged k (flat t.0) (check_of k (flat t.0)))) t.2
+      ∙ ap (λ (m : Meant). file_said (said_of m)) (sym t.1)

@@ -20,7 +20,7 @@ use Rattle.format.specs.Fields.{bare, number_of, set_in, same, word_in, Fields, 
 use Rattle.format.specs.Files.{fields}
 use Rattle.fields.specs.declared.words.Part.{Part}
 use Rattle.fields.specs.Ends.{up_to, pieces_from}
-use Rattle.fields.specs.Answers.{bareAt}
+use Rattle.fields.specs.Answers.{bare_at}
 use Rattle.fields.proofs.Finding.{up_le, pieces_start, pieces_none, pieces_next}
 use Rattle.fields.proofs.Spelling.{PartIs, bare_part, bare_is}
 use Rattle.reader.specs.declared.places.FieldAt.{FieldAt}
@@ -88,15 +88,15 @@ module _ (line : List ℕ) (from : ℕ) where
   abbrev field : List ℕ
   field = take long (drop from line)
 
-  pub field_is : {end : ℕ} {p : Part} → end ≡ from + long → p ≡ bareAt (take (end - from) (drop from line))
+  pub field_is : {end : ℕ} {p : Part} → end ≡ from + long → p ≡ bare_at (take (end - from) (drop from line))
       → record { start = from + p.start; end = from + p.end; next = end + 1 } ≡ field_at line from
   unfolding field_at
   field_is {end} e f =
-      let q = f ∙ ap (λ (n : ℕ). bareAt (take n (drop from line))) (let m : end - from ≡ long = omega arith in m) in
+      let q = f ∙ ap (λ (n : ℕ). bare_at (take n (drop from line))) (let m : end - from ≡ long = omega arith in m) in
       λ i. record { start = from + (q i).start; end = from + (q i).end; next = e i + 1 }
 
   -- that part is inside the field
-  pub part_fits : (end : ℕ) {p : Part} → p ≡ bareAt (take (end - from) (drop from line)) → (p.start ≤ p.end) × (p.end ≤ end - from)
+  pub part_fits : (end : ℕ) {p : Part} → p ≡ bare_at (take (end - from) (drop from line)) → (p.start ≤ p.end) × (p.end ≤ end - from)
   part_fits end e =
       let w = take (end - from) (drop from line) in
       let s = bare_is w e in
@@ -129,7 +129,7 @@ module _ (line : List ℕ) (from : ℕ) where
           (pieces_next comma line from (from + long) h refl
           ∙ ap (λ (n : ℕ). take n (drop from line) ∷ pieces_from comma line (from + long + 1)) (let q : from + long - from ≡ long = omega arith in q));
       after = left_here line (from + long + 1) (omega (arith, up_le comma (drop from line), length-drop from line));
-      part = part_in (bareAt field) (bare_part field);
+      part = part_in (bare_at field) (bare_part field);
     }
 
     pub field_found : {r : FieldAt} → r ≡ field_at line from → FieldFound line from r

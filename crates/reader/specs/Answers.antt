@@ -21,9 +21,9 @@ use Rattle.reader.specs.declared.files.File.{File}
 use Rattle.reader.specs.declared.files.Told.{Told}
 
 -- a line
-unfoldable pub rowSaid : Option Row → RowRead
-rowSaid none = NoRow
-rowSaid (some r) = IsRow r
+unfoldable pub row_said : Option Row → RowRead
+row_said none = NoRow
+row_said (some r) = IsRow r
 
 -- the numbers of as many rows as a graph can have: 384
 abbrev pub numbers : ℕ
@@ -38,27 +38,27 @@ LinesSay m found left (Lines-as-Rows n) = (rs : List Row) × (m ≡ Rows rs) × 
 abbrev pub zeros : List ℕ
 zeros = replicate numbers 0
 
-unfoldable pub noGraph : Outcome → File
-noGraph o = record { outcome = o; nodes = 0; rows = zeros }
+unfoldable pub no_graph : Outcome → File
+no_graph o = record { outcome = o; nodes = 0; rows = zeros }
 
-unfoldable pub fileSaid : Said → File
-fileSaid (Line line) = noGraph (Outcome-as-Line line)
-fileSaid (Refused r) = noGraph (Outcome-as-Refused r)
-fileSaid (Graph n rows) = record { outcome = Outcome-as-Graph; nodes = n; rows = sets zeros 0 rows }
+unfoldable pub file_said : Said → File
+file_said (Line line) = no_graph (Outcome-as-Line line)
+file_said (Refused r) = no_graph (Outcome-as-Refused r)
+file_said (Graph n rows) = record { outcome = Outcome-as-Graph; nodes = n; rows = sets zeros 0 rows }
 
 -- a graph of n rows, of which the numbers of those that a graph can have are stored
-abbrev pub checkedAs : ℕ → List ℕ → Checked → File
-checkedAs n stored (Checked-as-Refused r) = noGraph (Outcome-as-Refused r)
-checkedAs n stored Accepted = record { outcome = Outcome-as-Graph; nodes = n; rows = stored }
+abbrev pub checked_as : ℕ → List ℕ → Checked → File
+checked_as n stored (Checked-as-Refused r) = no_graph (Outcome-as-Refused r)
+checked_as n stored Accepted = record { outcome = Outcome-as-Graph; nodes = n; rows = stored }
 
-unfoldable pub graphJudged : ℕ → List ℕ → File
-graphJudged n stored =
+unfoldable pub graph_judged : ℕ → List ℕ → File
+graph_judged n stored =
     cond (ltb places n)
-    (noGraph (Outcome-as-Refused (record { number = 1; row = record { 0 = 0 } })))
-    (checkedAs n stored (check_of n (take (n * row_size) stored)))
+    (no_graph (Outcome-as-Refused (record { number = 1; row = record { 0 = 0 } })))
+    (checked_as n stored (check_of n (take (n * row_size) stored)))
 
 -- the number by which each outcome is known, with its line or row: 20 is the line's, a refused graph has its own, and one that isn't refused has none
-abbrev pub toldAs : Outcome → Told
-toldAs Outcome-as-Graph = record { number = 0; place = 0 }
-toldAs (Outcome-as-Line line) = record { number = 20; place = line }
-toldAs (Outcome-as-Refused r) = record { number = r.number; place = r.row.0 }
+abbrev pub told_as : Outcome → Told
+told_as Outcome-as-Graph = record { number = 0; place = 0 }
+told_as (Outcome-as-Line line) = record { number = 20; place = line }
+told_as (Outcome-as-Refused r) = record { number = r.number; place = r.row.0 }

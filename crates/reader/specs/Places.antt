@@ -5,7 +5,7 @@ use Rattle.nodes.specs.Words.{as_set}
 use Rattle.format.specs.Cut.{comma}
 use Rattle.format.specs.Fields.{number_of, set_in, Fields, next}
 use Rattle.fields.specs.Ends.{up_to, pieces_from}
-use Rattle.fields.specs.Answers.{bareAt}
+use Rattle.fields.specs.Answers.{bare_at}
 use Rattle.reader.specs.declared.places.FieldAt.{FieldAt}
 use Rattle.reader.specs.declared.places.NumberAt.{NumberAt}
 use Rattle.reader.specs.declared.places.SetAt.{SetAt}
@@ -18,7 +18,7 @@ left line from = cond (leb from (length line + 1)) (some (pieces_from comma line
 unfoldable pub field_at : List ℕ → ℕ → FieldAt
 field_at line from =
     let long = up_to comma (drop from line) in
-    let part = bareAt (take long (drop from line)) in
+    let part = bare_at (take long (drop from line)) in
     record { start = from + part.start; end = from + part.end; next = from + long + 1 }
 
 -- the place behind a field, if what is left behind it is known: two past the end once something was wrong

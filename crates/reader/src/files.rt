@@ -4,7 +4,7 @@ ghost use Rattle.std.proofs.lemmas.List.Edits.{sets};
 ghost use Rattle.waits.specs.Rows.{row_size, row_numbers};
 ghost use Rattle.format.specs.Cut.{lines_of};
 ghost use Rattle.format.specs.Files.{rows_from, meant_by, read_of};
-ghost use Rattle.reader.specs.Answers.{numbers, LinesSay, noGraph, graphJudged, fileSaid, toldAs};
+ghost use Rattle.reader.specs.Answers.{numbers, LinesSay, no_graph, graph_judged, file_said, told_as};
 
 use crate::lines::{RowRead, header, row};
 use fields::line_end;
@@ -89,7 +89,7 @@ fn read_lines(file: &[u8], rows: &mut [u64]) -> Lines
 }
 
 fn no_graph(outcome: Outcome) -> File
-    ensures { result ≡ noGraph outcome }
+    ensures { result ≡ no_graph outcome }
 {
     File {
         outcome: outcome,
@@ -100,7 +100,7 @@ fn no_graph(outcome: Outcome) -> File
 
 // Judges the graph of so many rows, of which those that a graph can have are stored.
 fn judge(nodes: usize, rows: [u64; NUMBERS]) -> File
-    ensures { result ≡ graphJudged nodes rows }
+    ensures { result ≡ graph_judged nodes rows }
 {
     if PLACES < nodes {
         let refused = Outcome::Refused(Refusal {
@@ -122,7 +122,7 @@ fn judge(nodes: usize, rows: [u64; NUMBERS]) -> File
 
 // Reads a file. Every line is judged before any number of the graph is given.
 pub fn read_file(file: &[u8]) -> File
-    ensures { result ≡ fileSaid (read_of file.now) }
+    ensures { result ≡ file_said (read_of file.now) }
 {
     let mut rows = [0u64; NUMBERS];
     let lines = read_lines(file, &mut rows);
@@ -133,7 +133,7 @@ pub fn read_file(file: &[u8]) -> File
 }
 
 pub fn told_as(outcome: Outcome) -> Told
-    ensures { result ≡ toldAs outcome }
+    ensures { result ≡ told_as outcome }
 {
     match outcome {
         Outcome::Graph => Told {

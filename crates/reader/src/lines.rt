@@ -1,7 +1,7 @@
 // The lines of a file: its header, and the row of a node.
 ghost use Rattle.std.specs.Prelude.{◌≡◌};
 ghost use Rattle.format.specs.Files.{is_header, row_of};
-ghost use Rattle.reader.specs.Answers.{rowSaid};
+ghost use Rattle.reader.specs.Answers.{row_said};
 
 use crate::places::{number_at, set_at, word_at};
 use waits::Row;
@@ -27,7 +27,7 @@ pub fn header(line: &[u8]) -> bool
 
 // The row that a line says node k has.
 pub fn row(line: &[u8], k: usize) -> RowRead
-    ensures { result ≡ rowSaid (row_of k line.now) }
+    ensures { result ≡ row_said (row_of k line.now) }
 {
     let behind = line.len() + 1;
     let node = number_at(line, 0);

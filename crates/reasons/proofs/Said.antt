@@ -17,7 +17,7 @@ use Rattle.faults.specs.declared.Fault.{Fault}
 use Rattle.reader.specs.declared.files.Outcome.{Outcome}
 use Rattle.reader.specs.declared.files.Outcome.TheVariants.{Graph as Outcome-as-Graph, Line as Outcome-as-Line, Refused as Outcome-as-Refused}
 use Rattle.reader.specs.declared.files.File.{File}
-use Rattle.reader.specs.Answers.{noGraph, fileSaid}
+use Rattle.reader.specs.Answers.{no_graph, file_said}
 use Rattle.report.specs.Report.{longest, Input, input_of}
 use Rattle.report.specs.Report.Input.{Says}
 use Rattle.reasons.specs.Reasons.{flaw_words, fault_words, line_reason, place_words, graph_reason, reason_for, reason_of}
@@ -47,8 +47,8 @@ outcome_reason bytes (Outcome-as-Line line) = line_reason bytes line
 outcome_reason bytes (Outcome-as-Refused r) = graph_reason r
 outcome_reason bytes Outcome-as-Graph = []
 
-outcome_says : (bytes : List ℕ) (s : Said) → outcome_reason bytes (fileSaid s).outcome ≡ reason_for bytes (Says s)
-unfolding fileSaid noGraph reason_for
+outcome_says : (bytes : List ℕ) (s : Said) → outcome_reason bytes (file_said s).outcome ≡ reason_for bytes (Says s)
+unfolding file_said no_graph reason_for
 outcome_says bytes (Line line) = refl
 outcome_says bytes (Refused r) = refl
 outcome_says bytes (Graph n rows) = refl
@@ -62,7 +62,7 @@ module _ (bytes : List ℕ) (t : Text) {u : Text} where
   unfolding reason_of input_of reason_for
   long_said h e = e ∙ ap (λ (b : Input). write t (reason_for bytes b)) (at_true _ (lt-ltb longest (length bytes) h) refl)
 
-  module _ (short : length bytes ≤ longest) {f : File} (read : f ≡ fileSaid (read_of bytes)) where
+  module _ (short : length bytes ≤ longest) {f : File} (read : f ≡ file_said (read_of bytes)) where
     pub said_as : (o : Outcome) → f.outcome ≡ o → u ≡ write t (outcome_reason bytes o) → u ≡ write t (reason_of bytes)
     unfolding reason_of input_of
     said_as o e w =

@@ -32,12 +32,12 @@ use Rattle.reader.specs.declared.files.Outcome.{Outcome}
 use Rattle.reader.specs.declared.files.Outcome.TheVariants.{Graph as Outcome-as-Graph, Line as Outcome-as-Line, Refused as Outcome-as-Refused}
 use Rattle.reader.specs.declared.files.File.{File}
 use Rattle.reader.specs.declared.files.Told.{Told}
-use Rattle.reader.specs.Answers.{numbers, zeros, noGraph, fileSaid, toldAs}
+use Rattle.reader.specs.Answers.{numbers, zeros, no_graph, file_said, told_as}
 use Rattle.report.specs.Report.{longest, Input, input_of, Stuck, node_lines, refusal_line, Answers, input_is, Answered}
 use Rattle.report.specs.Report.Input.{TooLong, Says}
 
 -- ---- a refusal
-pub refusal_written : (o : Outcome) {t : Told} (found : List ℕ) {a : Text} → t ≡ toldAs o → a ≡ write (text found 0) (refused_line t.number t.place)
+pub refusal_written : (o : Outcome) {t : Told} (found : List ℕ) {a : Text} → t ≡ told_as o → a ≡ write (text found 0) (refused_line t.number t.place)
     → a ≡ write (text found 0) (refusal_line o)
 refusal_written o found e w = w ∙ ap (λ (t : Told). write (text found 0) (refused_line t.number t.place)) e
 
@@ -87,20 +87,20 @@ module _ (n : ℕ) (rows : List ℕ) where
 abbrev OfGraph : Said → Type 0
 OfGraph s = (n : ℕ) × (rows : List ℕ) × (s ≡ Graph n rows)
 
-of_line_lem : (s : Said) (line : ℕ) → (fileSaid s).outcome ≡ Outcome-as-Line line → s ≡ Line line
-unfolding fileSaid noGraph
+of_line_lem : (s : Said) (line : ℕ) → (file_said s).outcome ≡ Outcome-as-Line line → s ≡ Line line
+unfolding file_said no_graph
 of_line_lem (Line l) line e = ap Line (cc e)
 of_line_lem (Refused r) line e = absurd (let z : ◌≡◌ {A = ℕ} 0 1 = cc e in omega arith)
 of_line_lem (Graph n rows) line e = absurd (let z : ◌≡◌ {A = ℕ} 0 1 = cc e in omega arith)
 
-of_refused : (s : Said) (r : Refusal) → (fileSaid s).outcome ≡ Outcome-as-Refused r → s ≡ Refused r
-unfolding fileSaid noGraph
+of_refused : (s : Said) (r : Refusal) → (file_said s).outcome ≡ Outcome-as-Refused r → s ≡ Refused r
+unfolding file_said no_graph
 of_refused (Line l) r e = absurd (let z : ◌≡◌ {A = ℕ} 0 1 = cc e in omega arith)
 of_refused (Refused q) r e = ap Refused (cc e)
 of_refused (Graph n rows) r e = absurd (let z : ◌≡◌ {A = ℕ} 0 1 = cc e in omega arith)
 
-of_graph : (s : Said) → (fileSaid s).outcome ≡ Outcome-as-Graph → OfGraph s
-unfolding fileSaid noGraph
+of_graph : (s : Said) → (file_said s).outcome ≡ Outcome-as-Graph → OfGraph s
+unfolding file_said no_graph
 of_graph (Line l) e = absurd (let z : ◌≡◌ {A = ℕ} 0 1 = cc e in omega arith)
 of_graph (Refused r) e = absurd (let z : ◌≡◌ {A = ℕ} 0 1 = cc e in omega arith)
 of_graph (Graph n rows) e = (n, rows, refl)
@@ -114,12 +114,12 @@ module _ (bytes found left : List ℕ) (end : ℕ) where
   unfolding input_of Answers
   too_long h w = answered (at_true _ (lt-ltb _ _ h) refl) (record { answer = refused_line 21 0; answers = refl; written = w })
 
-  module _ (h : length bytes ≤ longest) {f : File} (read : f ≡ fileSaid (read_of bytes)) where
+  module _ (h : length bytes ≤ longest) {f : File} (read : f ≡ file_said (read_of bytes)) where
     says : {s : Said} → read_of bytes ≡ s → Says s ≡ input_of bytes
     unfolding input_of
     says e = at_false TooLong (le-ltb _ _ h) (ap Says (sym e))
 
-    outcome : {o : Outcome} → f.outcome ≡ o → (fileSaid (read_of bytes)).outcome ≡ o
+    outcome : {o : Outcome} → f.outcome ≡ o → (file_said (read_of bytes)).outcome ≡ o
     outcome e = sym (ap (λ (x : File). x.outcome) read) ∙ e
 
     pub line_broken : {line : ℕ} → f.outcome ≡ Outcome-as-Line line → text left end ≡ write (text found 0) (refusal_line (Outcome-as-Line line)) → Answered (input_of bytes) found left end
@@ -131,7 +131,7 @@ module _ (bytes found left : List ℕ) (end : ℕ) where
     unfolding Answers
     file_refused {r} e w = answered (says (of_refused _ r (outcome e))) (record { answer = refusal_line (Outcome-as-Refused r); answers = refl; written = w })
 
-module _ (bytes : List ℕ) {f : File} (read : f ≡ fileSaid (read_of bytes)) (e : f.outcome ≡ Outcome-as-Graph) where
+module _ (bytes : List ℕ) {f : File} (read : f ≡ file_said (read_of bytes)) (e : f.outcome ≡ Outcome-as-Graph) where
   graph : OfGraph (read_of bytes)
   graph = of_graph (read_of bytes) (sym (ap (λ (x : File). x.outcome) read) ∙ e)
 
@@ -141,18 +141,18 @@ module _ (bytes : List ℕ) {f : File} (read : f ≡ fileSaid (read_of bytes)) (
   shaped : Shaped graph.0 graph.1
   shaped = accepted_shaped graph.0 graph.1 accepted
 
-  whole : f ≡ fileSaid (Graph graph.0 graph.1)
-  whole = read ∙ ap fileSaid graph.2
+  whole : f ≡ file_said (Graph graph.0 graph.1)
+  whole = read ∙ ap file_said graph.2
 
   count : f.nodes ≡ graph.0
-  unfolding fileSaid
+  unfolding file_said
   count = ap (λ (x : File). x.nodes) whole
 
   pub few_nodes : f.nodes ≤ places
   few_nodes = omega (arith, count, shaped.0)
 
   rows : f.rows ≡ sets zeros 0 graph.1
-  unfolding fileSaid
+  unfolding file_said
   rows = ap (λ (x : File). x.rows) whole
 
   pub rows_fit : f.nodes * row_size ≤ length f.rows

@@ -13,7 +13,7 @@ use Rattle.format.specs.Files.{Said, judged, read_of}
 use Rattle.format.specs.Files.Said.{Line, Refused, Graph}
 use Rattle.reader.specs.declared.files.Outcome.{Outcome}
 use Rattle.reader.specs.declared.files.Outcome.TheVariants.{Line as Outcome-as-Line, Refused as Outcome-as-Refused}
-use Rattle.reader.specs.Answers.{toldAs}
+use Rattle.reader.specs.Answers.{told_as}
 
 -- a longer file is not looked into
 abbrev pub longest : ℕ
@@ -38,7 +38,7 @@ node_lines (k ∷ l) = decimal k ++ word "\n" ++ node_lines l
 
 -- a refusal gives its number and its line or row
 abbrev pub refusal_line : Outcome → List ℕ
-refusal_line o = refused_line (toldAs o).number (toldAs o).place
+refusal_line o = refused_line (told_as o).number (told_as o).place
 
 -- 21 is of no line or row, and gives 0
 abbrev pub long_line : List ℕ

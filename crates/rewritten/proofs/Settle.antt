@@ -21,7 +21,7 @@ use Rattle.format.specs.Files.Said.{Line, Refused, Graph}
 use Rattle.format.specs.Written.{file_of}
 use Rattle.reader.specs.declared.files.Outcome.TheVariants.{Graph as Outcome-as-Graph, Line as Outcome-as-Line, Refused as Outcome-as-Refused}
 use Rattle.reader.specs.declared.files.File.{File}
-use Rattle.reader.specs.Answers.{numbers, zeros, noGraph, fileSaid}
+use Rattle.reader.specs.Answers.{numbers, zeros, no_graph, file_said}
 use Rattle.writer.specs.declared.Written.{Written}
 use Rattle.writer.specs.declared.Written.TheVariants.{Bytes, Refused as Written-as-Refused}
 use Rattle.writer.specs.Answer.{short_room, check_file_of, answer, leave, written_of, left_of, WrittenSays, longest_file}
@@ -86,16 +86,16 @@ module _ (bytes found left : List ℕ) (end : ℕ) where
   unfolding input_of
   long_refused h = refused (λ n rows e. let z : ◌≡◌ {A = ℕ} 0 1 = cc (e, at_true (Says (read_of bytes)) (lt-ltb longest (length bytes) h) refl) in omega arith)
 
-  module _ (h : length bytes ≤ longest) {f : File} (read : f ≡ fileSaid (read_of bytes)) where
+  module _ (h : length bytes ≤ longest) {f : File} (read : f ≡ file_said (read_of bytes)) where
     says : input_of bytes ≡ Says (read_of bytes)
     unfolding input_of
     says = sym (at_false TooLong (le-ltb longest (length bytes) h) refl)
 
     file_refused : (f.outcome ≡ Outcome-as-Graph → ⊥) → Answered (input_of bytes) found left end → text left end ≡ write (text found 0) (rewritten_of bytes)
-    unfolding fileSaid
+    unfolding file_said
     file_refused other = refused λ n rows e.
         let graph : read_of bytes ≡ Graph n rows = cc (e, says) in
-        other (ap (λ (x : File). x.outcome) (read ∙ ap fileSaid graph))
+        other (ap (λ (x : File). x.outcome) (read ∙ ap file_said graph))
 
     pub line_refused : {line : ℕ} → f.outcome ≡ Outcome-as-Line line → Answered (input_of bytes) found left end → text left end ≡ write (text found 0) (rewritten_of bytes)
     line_refused e = file_refused (λ g. let z : ◌≡◌ {A = ℕ} 0 1 = cc (e, g) in omega arith)
@@ -104,16 +104,16 @@ module _ (bytes found left : List ℕ) (end : ℕ) where
     graph_refused e = file_refused (λ g. let z : ◌≡◌ {A = ℕ} 0 1 = cc (e, g) in omega arith)
 
 -- what the reader hands over of a graph is this graph
-handed : (bytes : List ℕ) (s : Said) → read_of bytes ≡ s → (fileSaid s).outcome ≡ Outcome-as-Graph
-    → s ≡ Graph (fileSaid s).nodes (take ((fileSaid s).nodes * row_size) (fileSaid s).rows)
-unfolding fileSaid noGraph
+handed : (bytes : List ℕ) (s : Said) → read_of bytes ≡ s → (file_said s).outcome ≡ Outcome-as-Graph
+    → s ≡ Graph (file_said s).nodes (take ((file_said s).nodes * row_size) (file_said s).rows)
+unfolding file_said no_graph
 handed bytes (Line l) e o = absurd (let z : ◌≡◌ {A = ℕ} 0 1 = cc o in omega arith)
 handed bytes (Refused r) e o = absurd (let z : ◌≡◌ {A = ℕ} 0 1 = cc o in omega arith)
 handed bytes (Graph n rows) e o =
     let shape = accepted_shaped n rows (read_accepted n rows bytes e) in
     ap (Graph n) (sym (front_taken zeros rows (sym shape.1) (omega (arith, shape.0, shape.1, length-replicate {A = ℕ} numbers 0))))
 
-module _ (bytes : List ℕ) {f : File} (read : f ≡ fileSaid (read_of bytes)) (e : f.outcome ≡ Outcome-as-Graph) where
+module _ (bytes : List ℕ) {f : File} (read : f ≡ file_said (read_of bytes)) (e : f.outcome ≡ Outcome-as-Graph) where
   abbrev rows : List ℕ
   rows = take (f.nodes * row_size) f.rows
 

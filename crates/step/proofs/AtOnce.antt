@@ -13,13 +13,13 @@ use Rattle.step.specs.declared.answers.Verdict.TheVariants.{NoVerdict, NotDeadlo
 use Rattle.step.specs.declared.answers.Answer.{Answer}
 use Rattle.step.specs.declared.answers.Answer.TheVariants.{Opened}
 use Rattle.step.specs.Step.{Seen, Move, active, complete, be_called, verdict_of, settle, open_round}
-use Rattle.step.specs.Answers.{saidAtOnce}
+use Rattle.step.specs.Answers.{said_at_once}
 use Rattle.step.proofs.Reacts.{called_cases}
 use Rattle.step.proofs.Taken.{open_says}
 
 module _ (o : Seen) (idle : active o ≡ true → o.out ≡ 0) (waits : active o ≡ false → o.out ≡ 0 → ⊥) where
   abbrev Says : Move → Type 0
-  Says m = verdict_of (complete o m.state) m.state ≡ saidAtOnce o
+  Says m = verdict_of (complete o m.state) m.state ≡ said_at_once o
 
   both : (z : Bool) → cond (z && true) NotDeadlocked NoVerdict ≡ cond z NotDeadlocked NoVerdict
   both true = refl
@@ -38,7 +38,7 @@ module _ (o : Seen) (idle : active o ≡ true → o.out ≡ 0) (waits : active o
       ∙ ap (λ (a : Bool). cond (a && eqb o.ins 0) NotDeadlocked NoVerdict) (sym d))
 
   -- Theorem: an opening says that.
-  pub opens_saying : (round : ℕ) → (open_round o round).answer ≡ Opened (saidAtOnce o)
+  pub opens_saying : (round : ℕ) → (open_round o round).answer ≡ Opened (said_at_once o)
   unfolding open_round settle
   opens_saying round = open_says o round ∙ ap Opened (called_says round)
 

@@ -15,11 +15,11 @@ use Rattle.step.specs.declared.answers.Verdict.{Verdict}
 use Rattle.step.specs.declared.answers.Verdict.TheVariants.{NoVerdict, Deadlocked, NotDeadlocked}
 use Rattle.step.specs.declared.answers.Answer.{Answer}
 use Rattle.step.specs.declared.answers.Answer.TheVariants.{Taken, Opened}
-use Rattle.step.specs.Answers.{verdictCode}
+use Rattle.step.specs.Answers.{verdict_code}
 use Rattle.step.specs.Step.{Seen, Receivers, Move, End, Outcome, acked, complete, nobody, sending, move, become_free, be_called, react, newly, owed, verdict_of, settle, saying, still, open_round, neighbours, take, arrive, receive}
 use Rattle.step.specs.Views.{seen_by}
 
-pub verdict_code_le : (v : Verdict) → verdictCode v ≤ 2
+pub verdict_code_le : (v : Verdict) → verdict_code v ≤ 2
 verdict_code_le NoVerdict = omega arith
 verdict_code_le Deadlocked = omega arith
 verdict_code_le NotDeadlocked = omega arith

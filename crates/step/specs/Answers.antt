@@ -7,10 +7,10 @@ use Rattle.step.specs.declared.answers.Answer.TheVariants.{Refused, Old, Stray, 
 use Rattle.step.specs.Step.{Seen, active}
 
 -- no verdict, deadlocked, not deadlocked
-abbrev pub verdictCode : Verdict → ℕ
-verdictCode NoVerdict = 0
-verdictCode Deadlocked = 1
-verdictCode NotDeadlocked = 2
+abbrev pub verdict_code : Verdict → ℕ
+verdict_code NoVerdict = 0
+verdict_code Deadlocked = 1
+verdict_code NotDeadlocked = 2
 
 -- a refusal's own number is 1 to 99
 abbrev pub code_of : Answer → ℕ
@@ -18,9 +18,9 @@ code_of (Refused r) = r.number
 code_of Old = 100
 code_of Stray = 101
 code_of Repeat = 102
-code_of (Taken v) = 110 + verdictCode v
-code_of (Opened v) = 120 + verdictCode v
+code_of (Taken v) = 110 + verdict_code v
+code_of (Opened v) = 120 + verdict_code v
 
 -- nothing, but of an active node that nobody waits on: by what a node sees, and not by the graph
-abbrev pub saidAtOnce : Seen → Verdict
-saidAtOnce o = cond (active o && eqb o.ins 0) NotDeadlocked NoVerdict
+abbrev pub said_at_once : Seen → Verdict
+said_at_once o = cond (active o && eqb o.ins 0) NotDeadlocked NoVerdict

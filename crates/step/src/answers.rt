@@ -1,7 +1,7 @@
 // What a controller answers.
 ghost use Rattle.std.specs.Prelude.{◌≡◌};
 ghost use Rattle.records.specs.Records.{state_of};
-ghost use Rattle.step.specs.Answers.{verdictCode, code_of};
+ghost use Rattle.step.specs.Answers.{verdict_code, code_of};
 ghost use Rattle.step.specs.Step.{still as still_of};
 ghost use Rattle.step.specs.Views.{outcome_of};
 
@@ -36,7 +36,7 @@ pub struct Stepped {
 }
 
 fn verdict_code(v: Verdict) -> u64
-    ensures { result ≡ verdictCode v }
+    ensures { result ≡ verdict_code v }
 {
     match v {
         Verdict::NoVerdict => 0,
