@@ -20,6 +20,8 @@ ALIAS = re.compile(r"(?<=\sas\s)(" + NAME + r")(?=\s*[,}])")
 PLACED = ("Proof.antt", "Answers.antt", "Invariants.antt")
 # What port.py spelled as a type though it is a word; and what a file calls another's word, which would get the name of a definition.
 MENDED = {"Frees-of": "frees_of", "run_of": "the_run", "blank_of": "the_blank"}
+# Fields of records in specs/ that would get the name of a definition.
+FIELDS = {"sends-after": "sends_left", "as-set": "as_a_set"}
 
 
 def files(root):
@@ -72,6 +74,7 @@ def table(texts):
         keeps = sorted(humps or there or olds)[0]
         for old in sorted((olds | there) - {keeps}):
             turned[old] = new + "_lem"
+    turned.update(FIELDS)
     return {old: new for old, new in turned.items() if old != new}
 
 

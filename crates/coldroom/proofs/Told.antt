@@ -34,11 +34,11 @@ refused_small a r p e = subst SmallAnswer e p
 -- ---- a controller's call: nothing was done, or something
 module _ (out : Outcome) (kept sends kept' sends' : List ℕ) (r : ℕ) where
   pub nothing_left : done out.answer ≡ false → kept' ≡ kept → sends' ≡ sends → r ≡ answer out.answer → Leaves out kept sends kept' sends' r
-  nothing_left e p q h = record { kept_after = at_false _ e p; sends_after_lem = at_false _ e q; result = h }
+  nothing_left e p q h = record { kept_after = at_false _ e p; sends_left = at_false _ e q; result = h }
 
   pub all_left : done out.answer ≡ true → kept' ≡ put_state kept 0 out.state → sends' ≡ sets sends 0 (four_sets out.sends) → r ≡ answer out.answer
       → Leaves out kept sends kept' sends' r
-  all_left e p q h = record { kept_after = at_true _ e p; sends_after_lem = at_true _ e q; result = h }
+  all_left e p q h = record { kept_after = at_true _ e p; sends_left = at_true _ e q; result = h }
 
 pub left_as : {out out' : Outcome} {kept sends kept' sends' : List ℕ} {r : ℕ} → out ≡ out' → Leaves out kept sends kept' sends' r → Leaves out' kept sends kept' sends' r
 left_as {kept = kept} {sends} {kept'} {sends'} {r} e p = subst (λ x. Leaves x kept sends kept' sends' r) e p

@@ -55,7 +55,7 @@ module _ (n : ℕ) (rows : List ℕ) where
 pub one_call : (out : Outcome) (kept sends : List ℕ) (kept' kept'' sends' sends'' : List ℕ) (r s : ℕ)
     → Leaves out kept sends kept' sends' r → Leaves out kept sends kept'' sends'' s → (kept' ≡ kept'') × (sends' ≡ sends'') × (r ≡ s)
 one_call out kept sends kept' kept'' sends' sends'' r s p q =
-    (only_one p.kept_after q.kept_after, only_one p.sends_after_lem q.sends_after_lem, only_one p.result q.result)
+    (only_one p.kept_after q.kept_after, only_one p.sends_left q.sends_left, only_one p.result q.result)
 
 -- ---- Laws: the calls of a bench
 pub one_step : (out : After) (b c : Bench) (r s : ℕ) → StepLeaves out b r → StepLeaves out c s → (b ≡ c) × (r ≡ s)

@@ -49,7 +49,7 @@ sends_after sends out = cond (done out.answer) (sets sends 0 (four_sets out.send
 -- A controller's call, with the record and the sets as found and as left, and its result.
 pub record Leaves (out : Outcome) (kept sends kept' sends' : List ℕ) (r : ℕ) : Type 0 where
   pub kept_after : kept' ≡ record_after kept out
-  pub sends_after_lem : sends' ≡ sends_after sends out
+  pub sends_left : sends' ≡ sends_after sends out
   pub result : r ≡ answer out.answer
 
 -- a step of a bench

@@ -110,7 +110,7 @@ module _ (n : ℕ) (rows : List ℕ) where
     -- "Whoever wrote the list, that is all that counts." The paper: a list that isn't refused is a set. If graph and node aren't
     -- refused, a list is accepted exactly if it names nodes alone and is the ascending list of its set's members; no other with these
     -- members is then accepted, and the member that comes first is the lowest.
-    pub as_set_lem : check_node_of n rows i ≡ Accepted → (l : List ℕ)
+    pub as_a_set : check_node_of n rows i ≡ Accepted → (l : List ℕ)
         → (check_list_of n rows i l ≡ Accepted) ↔ (((j : ℕ) → Memᴰ j l → j < n) × (members (set_of l) ≡ l))
     pub one_list : (l m : List ℕ) → check_list_of n rows i l ≡ Accepted → check_list_of n rows i m ≡ Accepted → ((j : ℕ) → Memᴰ j l ↔ Memᴰ j m) → l ≡ m
     pub lowest : (l : List ℕ) → check_list_of n rows i l ≡ Accepted → (k : Node) → judged_of n rows i l ≡ MemberSatisfied k
