@@ -1,5 +1,6 @@
 // Who is deadlocked, the evidence for it, and the ring; and who waits on a node.
 #![tactic(auto)]
+
 mod claims;
 mod evidence;
 mod reach;

@@ -51,6 +51,7 @@ among_verdicts (y ∷ l) x (here q) v i =
     Memᴰ.append_left _ (subst (λ (z : Event × Answer). Memᴰ v (cond (eqb (round_of z.0) (round_of x.0)) (verdict_in z.1) [])) q
     (subst (λ (t : Bool). Memᴰ v (cond t (verdict_in x.1) [])) (sym (eq-eqb (round_of x.0) (round_of x.0) refl)) i))
 among_verdicts (y ∷ l) x (there h) v i = Memᴰ.append_right (cond (eqb (round_of y.0) (round_of x.0)) (verdict_in y.1) []) (among_verdicts l x h v i)
+among_verdicts [] x x4 v i = elim x4 [ ]
 
 -- ---- a message and its numbers
 kind_back : (k : Kind) → kind_of (kind_number k) ≡ k
@@ -140,6 +141,7 @@ module _ (n : ℕ) (rows : List ℕ) (ok : check_of n rows ≡ Accepted) where
   all_accepted : (l : List Event) (x : Event × Answer) → Memᴰ x (answers_of w l) → accepted x.1 ≡ true
   all_accepted (e ∷ l) x (here q) = ap (λ (y : Event × Answer). accepted y.1) q ∙ outcome_accepted w (since w l) e
   all_accepted (e ∷ l) x (there i) = all_accepted l x i
+  all_accepted [] x x3 = elim x3 [ ]
 
   module _ (l : List Event) (may : MayHappen n rows l) where
     history : History w l

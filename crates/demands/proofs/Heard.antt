@@ -15,8 +15,9 @@ use Rattle.step.specs.Step.{seen_in}
 use Rattle.lent.specs.declared.steps.Step.{Step}
 use Rattle.bench.specs.Bench.{Bench, After, fresh}
 use Rattle.bench.specs.Steps.{step_on}
+use Rattle.waits.specs.Rows.{waits_of}
 use Rattle.rounds.specs.Course.{Stage}
-use Rattle.rounds.specs.History.{Event, outcome}
+use Rattle.rounds.specs.History.{since, Event, outcome}
 use Rattle.demands.specs.Turns.{Turn, turns, after_steps, accepted, event_of, heard}
 use Rattle.demands.proofs.Said.{open_accepted, receive_accepted}
 use Rattle.demands.proofs.Stands.{Stands, fresh_stands}
@@ -45,7 +46,7 @@ module _ {n : ℕ} {rows : List ℕ} {b : Bench} {l : List Event} {e : Event} wh
   next_stands : {a : After} → Onward n rows b l e a → Stands n rows b l → Stands n rows a.bench (cond (accepted a.answer) (e ∷ l) l)
   next_stands (refused number h) st = st
   next_stands (full h r) st = st
-  next_stands (taken next s more same) st = subst (λ (t : Bool). Stands n rows next (cond t (e ∷ l) l)) (sym (outcome_accepted _ _ e)) s
+  next_stands (taken next s more same) st = subst (λ (t : Bool). Stands n rows next (cond t (e ∷ l) l)) (sym (outcome_accepted _ (since (waits_of n rows) l) e)) s
 
   next_kept : {a : After} → Onward n rows b l e a → Kept b a.bench
   next_kept (refused number h) = all_kept b
@@ -71,11 +72,13 @@ module _ (n : ℕ) (rows messages : List ℕ) (ok : check_of n rows ≡ Accepted
   pub turn_kept : (steps : List Step) (t : Turn) → Memᴰ t (past steps) → Kept t.on (now steps)
   turn_kept (x ∷ steps) t (here e) = subst (λ (y : Turn). Kept y.on (now (x ∷ steps))) (sym e) (step_kept steps x)
   turn_kept (x ∷ steps) t (there i) = kept_on (turn_kept steps t i) (step_kept steps x)
+  turn_kept [] t x' = elim x' [ ]
 
 -- a turn gave what its step on its bench gives
 pub turn_gave : (n : ℕ) (rows : List ℕ) (b : Bench) (steps : List Step) (t : Turn) → Memᴰ t (turns n rows b steps) → t.gave ≡ step_on n rows t.on t.step
 turn_gave n rows b (x ∷ steps) t (here e) = subst (λ (y : Turn). y.gave ≡ step_on n rows y.on y.step) (sym e) refl
 turn_gave n rows b (x ∷ steps) t (there i) = turn_gave n rows b steps t i
+turn_gave n rows b [] t x' = elim x' [ ]
 
 -- ---- what was heard is the events of the turns that weren't refused
 heard_cons : (t : Turn) (l : List Turn) (e : Event) → Memᴰ e (heard l) → Memᴰ e (heard (t ∷ l))
@@ -90,6 +93,7 @@ turn_heard (a ∷ l) t (here e) f =
     let g : accepted a.gave.answer ≡ true = ap (λ (x : Turn). accepted x.gave.answer) (sym e) ∙ f in
     Memᴰ.cast (ap event_of e) (subst (λ (b : Bool). Memᴰ (event_of a) (cond b (event_of a ∷ heard l) (heard l))) (sym g) (here refl))
 turn_heard (a ∷ l) t (there i) f = heard_cons a l (event_of t) (turn_heard l t i f)
+turn_heard [] t x'' f = elim x'' [ ]
 
 -- the event of some turn
 abbrev From : List Turn → Event → Type 0

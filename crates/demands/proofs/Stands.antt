@@ -94,6 +94,7 @@ module _ {A : Type 0} (f : A → ℕ) where
   place_of : (l : List A) (x : A) → Memᴰ x l → (k : ℕ) × (k < length l) × (get_or (map f l) k 0 ≡ f x)
   place_of (a ∷ l) x (here e) = (0, omega arith, ap f (sym e))
   place_of (a ∷ l) x (there m) = let r = place_of l x m in (suc r.0, omega (arith, r.1), r.2)
+  place_of [] x x3 = elim x3 [ ]
 
 -- ---- the messages of a bench that stands for a history
 module _ {n : ℕ} {rows : List ℕ} {b : Bench} {l : List Event} (st : Stands n rows b l) where

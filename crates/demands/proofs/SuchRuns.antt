@@ -36,6 +36,7 @@ module _ (n : ℕ) (rows : List ℕ) (b : Bench) where
   step_of : (l : List Step) (t : Turn) → Memᴰ t (turns n rows b l) → Memᴰ t.step l
   step_of (x ∷ l) t (here e) = here (ap (λ (y : Turn). y.step) e)
   step_of (x ∷ l) t (there i) = there (step_of l t i)
+  step_of [] t x' = elim x' [ ]
 
 module _ (n : ℕ) (rows : List ℕ) (ok : check_of n rows ≡ Accepted) (s round : ℕ) (node : s < n) (range : (0 < round) × (round ≤ last_round))
     (messages : List ℕ) (enough : 4 * edges (waits_of n rows) ≤ room_of (length messages)) where

@@ -83,6 +83,7 @@ module _ (n : ℕ) (rows messages : List ℕ) (ok : check_of n rows ≡ Accepted
   pub turn_answer : (steps : List Step) (t : Turn) → Memᴰ t (turns n rows (fresh n messages) steps) → Answered steps t
   turn_answer (x ∷ steps) t (here q) = subst (Answered (x ∷ steps)) (sym q) (newest_answer steps x)
   turn_answer (x ∷ steps) t (there i) = λ f. older_answer steps x _ (turn_answer steps t i f)
+  turn_answer [] t x' = elim x' [ ]
 
 -- ---- all verdicts from a fresh start
 module _ (n : ℕ) (rows messages : List ℕ) (ok : check_of n rows ≡ Accepted) (round : ℕ) where

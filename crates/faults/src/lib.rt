@@ -1,5 +1,6 @@
 // What is wrong with a line of a file of waits, the first thing that is.
 #![tactic(auto)]
+
 ghost use Rattle.std.specs.Prelude.{◌≡◌};
 ghost use Rattle.format.specs.Cut.{comma, pieces};
 ghost use Rattle.faults.specs.Faults.{line_fault, header_fault, field_flaw, fields_fault, row_fault, fault_of};

@@ -1,5 +1,6 @@
 // The pieces of a text: where each ends, and what it says.
 #![tactic(auto)]
+
 mod ends;
 mod numbers;
 mod sets;

@@ -1,5 +1,6 @@
 // The reader of a file of waits: its fields, its lines, the whole file.
 #![tactic(auto)]
+
 mod files;
 mod lines;
 mod places;

@@ -1,5 +1,6 @@
 // Why a file of waits is refused, as one line of plain words.
 #![tactic(auto)]
+
 ghost use Rattle.std.specs.Prelude.{◌≡◌, replicate};
 ghost use Rattle.text.specs.Text.{text, write};
 ghost use Rattle.reasons.specs.Reasons.{longest_reason, line_reason, graph_reason, reason_of};

@@ -53,7 +53,7 @@ impl Cause {
         }
     }
 
-    pub fn by_itself_lem(self) -> bool
+    pub fn by_itself(self) -> bool
         ensures { result ≡ by_itself (why_of self.0) }
     {
         let why = self.why();

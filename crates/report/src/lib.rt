@@ -1,5 +1,6 @@
 // A file of waits in, the answer out: who is deadlocked in the graph that it says, or its refusal.
 #![tactic(auto)]
+
 ghost use Rattle.std.specs.Prelude.{◌≡◌, ◌+◌, replicate};
 ghost use Rattle.nodes.specs.Sets.{members};
 ghost use Rattle.nodes.specs.Words.{num};

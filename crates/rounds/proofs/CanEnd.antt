@@ -26,6 +26,7 @@ module _ (w : Waits) (lawful : Lawful w) (s : ℕ) (node : s < w.nodes) (round :
   unfolding after
   delivered_sent (n ∷ l) e m (here q) = Memᴰ.append_left _ (subst (λ (x : Letter). Memᴰ x (sent_by l)) (sym q) e.0)
   delivered_sent (n ∷ l) e m (there i) = Memᴰ.append_left _ (delivered_sent l e.1 m i)
+  delivered_sent [] e m x'' = elim x'' [ ]
 
   -- so messages that are delivered, none of them twice, are at most four an edge
   few : (k l : List Letter) → Course w s round (k ++ l) → Once k → length k ≤ 4 * edges w

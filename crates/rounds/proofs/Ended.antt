@@ -36,6 +36,7 @@ Acked w st i = acked (seen_in w i) (st i) ≡ true
 pub reduction_node : (w : Waits) (l : List ℕ) (i : ℕ) → Reduction w l → Memᴰ i l → i < w.nodes
 reduction_node w (x ∷ l) i r (here e) = subst (λ (y : ℕ). y < w.nodes) (sym e) r.0
 reduction_node w (x ∷ l) i r (there m) = reduction_node w l i r.2 m
+reduction_node w mathlib.Core.List.[] i r x'' = elim x'' [ ]
 
 -- ---- at every time
 module _ {w : Waits} {s round : ℕ} {st : ℕ → State} (v : Invariant w s round st) where
@@ -152,6 +153,7 @@ module _ {w : Waits} {s round : ℕ} {st : ℕ → State} (v : Invariant w s rou
     | inr a ↦ met_free x (set_of l) r.0.0 a (λ j m k. freed_free h l (r.0.2, λ z n. r.1 z (there n)) j (in_list l j k)) r.0.1
   ])
   freed_free h (x ∷ l) r i (there n) = freed_free h l (r.0.2, λ z m. r.1 z (there m)) i n
+  freed_free h mathlib.Core.List.[] r i x'' = elim x'' [ ]
 
   pub free_freed : called (st s) ≡ true → (i : ℕ) → (free (st i) ≡ true) ↔ FreedFrom w s i
   free_freed h i = (λ e. (v.frees, v.reduction, v.freed_order.listed i e), λ f. freed_free h f.0 f.1 i f.2)

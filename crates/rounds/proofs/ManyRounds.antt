@@ -57,6 +57,7 @@ rounds_listed (Event.opens i round ∷ l) e (here q) = subst (Listed (round ∷ 
 rounds_listed (Event.opens i round ∷ l) e (there m) = listed_on round (rounds l) e (rounds_listed l e m)
 rounds_listed (Event.arrives m ∷ l) e (here q) = subst (Listed (rounds l)) (sym q) tt
 rounds_listed (Event.arrives x ∷ l) e (there m) = rounds_listed l e m
+rounds_listed [] e x' = elim x' [ ]
 
 -- the highest round was opened, unless none was
 newest_opened : (l : List Event) → (highest_in l ≡ 0) ⊎ ((s : ℕ) × Opened l s (highest_in l))
@@ -73,6 +74,7 @@ only_one (v ∷ x ∷ l) e = absurd (omega arith)
 some_ended : (b : Bool) (l : List Verdict) (v : Verdict) → length l ≡ cond b 1 0 → Memᴰ v l → b ≡ true
 some_ended true l v e m = refl
 some_ended false (x ∷ l) v e m = absurd (omega arith)
+some_ended false [] v e m = elim m [ ]
 
 module _ (w : Waits) (lawful : Lawful w) (l : List Event) (history : History w l) where
   told : Told w l

@@ -29,6 +29,8 @@ Stands (suc k) m (x ∷ l) = Stands k m l
 pub at : (k : ℕ) {m : Letter} {l : List Letter} → Stands k m l → Memᴰ m l
 at zero {l = x ∷ l} e = here e
 at (suc k) {l = x ∷ l} e = there (at k e)
+at zero {m = m} {l = []} e = elim e [ ]
+at (suc k) {m = m} {l = []} e = elim e [ ]
 
 -- morning 6: 1 waits on 2, and 2 is active
 abbrev pub sixth : Waits

@@ -105,3 +105,4 @@ module _ (w : Waits) where
   all_openers (x ∷ l) e a (here q) v i =
       subst (λ (y : Event × Answer). Memᴰ v (verdict_in y.1) → Opened (x ∷ l) (node_of y.0) (round_of y.0)) (sym q) (event_opener l x v) i
   all_openers (x ∷ l) e a (there h) v i = there (all_openers l e a h v i)
+  all_openers [] e a x'' v i = elim x'' [ ]

@@ -38,6 +38,7 @@ order_none f none = record {
 behind_in : (f : ℕ → Why) (l : List ℕ) → Behind f l → (i j : ℕ) → Memᴰ i l → In j (sender_of (f i)) → Memᴰ j l
 behind_in f (x ∷ l) b i j (here e) m = there (b.0 j (subst (λ (y : ℕ). In j (sender_of (f y))) e m))
 behind_in f (x ∷ l) b i j (there n) m = there (behind_in f l b.1 i j n m)
+behind_in f [] b i j x3 m = elim x3 [ ]
 
 behind_same : (f g : ℕ → Why) (l : List ℕ) → ((i : ℕ) → Memᴰ i l → g i ≡ f i) → Behind f l → Behind g l
 behind_same f g [] e b = tt
@@ -96,6 +97,7 @@ module _ (f : ℕ → Why) (l : List ℕ) (o : Order f l) (P : ℕ → Type 0) w
     up : (k : List ℕ) → Behind f k → ((i : ℕ) → Memᴰ i k → happened (f i) ≡ true) → (i : ℕ) → Memᴰ i k → P i
     up (x ∷ k) b on i (here e) = subst P (sym e) (step x (on x (here refl)) (λ j m. up k b.1 (λ z n. on z (there n)) j (b.0 j m)))
     up (x ∷ k) b on i (there n) = up k b.1 (λ z m. on z (there m)) i n
+    up [] b on i x3 = elim x3 [ ]
 
     pub oldest_first : (x : ℕ) → happened (f x) ≡ true → P x
     oldest_first x h = up l o.behind o.only x (o.listed x h)

@@ -133,7 +133,7 @@ fn verdict(ended: bool, r: Record) -> Verdict
     if !ended {
         return Verdict::NoVerdict;
     }
-    if !call.by_itself_lem() {
+    if !call.by_itself() {
         return Verdict::NoVerdict;
     }
     if freed.happened() {

@@ -1,0 +1,25 @@
+-- `set_of` meets its contract. The loop's invariant: the entries passed are in the set. Assumes nothing.
+use mathlib.Core.Path.{ap, ◌∙◌}
+use native.Mathlib.Omega.{arith}
+use lib.Seq.{take_all}
+use Rattle.nodes.specs.Sets.{set_of}
+use Rattle.deadlock.proofs.Cases.{entry_node, taken_one, none_taken}
+use Rattle.deadlock.proofs.evidence.set_of.Goals as goal
+
+pub loop-at-init : goal.loop-at-init
+loop-at-init c = c.empty-s.ensures ∙ none_taken
+
+pub bounds-list-at : goal.bounds-list-at
+bounds-list-at c = omega arith
+
+pub with-s-requires : goal.with-s-requires
+with-s-requires c = omega (arith, entry_node _ _ _ c.loop-at-test.true c.requires.1, c.named.ensures)
+
+pub loop-at-smaller : goal.loop-at-smaller
+loop-at-smaller c = omega arith
+
+pub loop-at-preserved : goal.loop-at-preserved
+loop-at-preserved c = taken_one _ _ _ c.loop-at-test.true c.loop-at.invariant c.named.ensures c.with-s.ensures
+
+pub returns : goal.returns
+returns c = c.loop-at.invariant ∙ ap set_of (take_all _ _ c.loop-at-test.false)

@@ -1,0 +1,17 @@
+-- `behind` meets its contract. Assumes nothing.
+use mathlib.Core.Path.{refl, sym, ◌∙◌}
+use Rattle.lemmas.proofs.Cases.{in_arm}
+use Rattle.records.specs.Rounds.{is_behind, behind}
+use Rattle.records.proofs.rounds.behind.Goals as goal
+
+pub returns-in-Behind : goal.returns-in-Behind
+unfolding behind
+returns-in-Behind c = in_arm is_behind (sym c.compare-compared.ensures ∙ c.in-Behind.is) refl
+
+pub returns-in-Same : goal.returns-in-Same
+unfolding behind
+returns-in-Same c = in_arm is_behind (sym c.compare-compared.ensures ∙ c.in-Same.is) refl
+
+pub returns-in-Ahead : goal.returns-in-Ahead
+unfolding behind
+returns-in-Ahead c = in_arm is_behind (sym c.compare-compared.ensures ∙ c.in-Ahead.is) refl

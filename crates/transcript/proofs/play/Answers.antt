@@ -1,0 +1,16 @@
+-- `play` meets its contract. Assumes nothing.
+use mathlib.Core.Path.{◌≡◌, ap, refl}
+use Prim.Native.Nat.{◌+◌, ◌-◌, ℕ}
+use native.Mathlib.Omega.{arith}
+use lib.ListN.{drop, take}
+use Rattle.transcript.proofs.Settle.{first_fit, first_length, played_as}
+use Rattle.transcript.proofs.play.Goals as goal
+
+pub slice_bounds-begin-end-4 : goal.slice_bounds-begin-end-4
+slice_bounds-begin-end-4 c = first_length _ _ c.requires.2
+
+pub begin-ran-requires : goal.begin-ran-requires
+begin-ran-requires c = (c.records_room-records.ensures, refl, c.requires.1, first_fit _ _ _ c.requires.2 c.requires.3)
+
+pub returns : goal.returns
+returns c = played_as c.args.numbers.now c.args.steps.now c.args.shape _ _ _ _ _ c.requires.2 (let e : c.args.shape.rows + 2 - 2 ≡ c.args.shape.rows = omega arith in ap (λ (k : ℕ). take k (drop 2 c.args.numbers.now)) e) c.begin-ran.ensures c.tell.ensures
