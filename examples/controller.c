@@ -51,7 +51,7 @@ static void send_all(const struct controller *c, uint64_t sends[COLDROOM_SENDS])
 /* The controller opens a round. One that waits too long for its verdict does so again, with the next number. */
 static uint64_t open_round(struct controller *c)
 {
-    uint64_t sends[COLDROOM_SENDS] = {0};
+    uint64_t sends[COLDROOM_SENDS];
     uint64_t result = coldroom_open(c->nodes, c->me, c->row, COLDROOM_ROW, c->in, c->record, next_round(), sends);
     if (coldroom_acted(result))
         send_all(c, sends);
@@ -61,7 +61,7 @@ static uint64_t open_round(struct controller *c)
 /* A message has arrived at the controller. */
 static uint64_t arrived(struct controller *c, uint64_t message)
 {
-    uint64_t sends[COLDROOM_SENDS] = {0};
+    uint64_t sends[COLDROOM_SENDS];
     uint64_t result = coldroom_deliver(c->nodes, c->me, c->row, COLDROOM_ROW, c->in, c->record,
                                        coldroom_message_kind(message), coldroom_message_from(message),
                                        coldroom_message_to(message), coldroom_message_round(message), sends);

@@ -9,8 +9,8 @@
  * proved, and small enough to be read.
  *
  * What a caller must do itself, since C does not say it: a pointer that comes with a length points to that many places (of length
- * 0: any pointer); other pointers point to one place, or to as many as the parameter's brackets say; all of them are aligned and
- * have been written before, with whatever numbers; what a call may write overlaps nothing else that is passed to it.
+ * 0: any pointer); other pointers point to one place, or to as many as the parameter's brackets say; what a call may write
+ * overlaps nothing else that is passed to it.
  *
  * THE GRAPH OF WAITS. 1 to 64 nodes, numbered from 0, and at most 512 edges. `nodes` is their count; `rows` has six numbers for
  * each: kind, threshold, and four sets. A set is a number in which bit k is node k.

@@ -43,7 +43,7 @@ static void see_sent(uint64_t me, uint64_t result, uint64_t sends[COLDROOM_SENDS
 
 static void open_both(uint64_t me, uint64_t round)
 {
-    uint64_t sends[COLDROOM_SENDS] = {0}, from = sent;
+    uint64_t sends[COLDROOM_SENDS], from = sent;
     uint64_t alone = coldroom_open(NODES, me, &rows[me * COLDROOM_ROW], COLDROOM_ROW, waiting[me], kept[me], round, sends);
     uint64_t bench = coldroom_step(NODES, rows, NODES * COLDROOM_ROW, records, NODES * COLDROOM_RECORD, messages, ROOM,
                                    &sent, &highest, 0, me, round);
@@ -54,7 +54,7 @@ static void open_both(uint64_t me, uint64_t round)
 
 static uint64_t deliver_both(uint64_t k)
 {
-    uint64_t sends[COLDROOM_SENDS] = {0}, from = sent, m = messages[k], me = coldroom_message_to(m);
+    uint64_t sends[COLDROOM_SENDS], from = sent, m = messages[k], me = coldroom_message_to(m);
     uint64_t alone = coldroom_deliver(NODES, me, &rows[me * COLDROOM_ROW], COLDROOM_ROW, waiting[me], kept[me], coldroom_message_kind(m),
                                       coldroom_message_from(m), me, coldroom_message_round(m), sends);
     uint64_t bench = coldroom_step(NODES, rows, NODES * COLDROOM_ROW, records, NODES * COLDROOM_RECORD, messages, ROOM,
@@ -79,7 +79,7 @@ static void see_words(void)
 static void see_trap(void)
 {
     static const uint64_t waits[2 * COLDROOM_ROW] = {0, 0, 0, 0, 0, 0, 1, 1, 1, 0, 0, 0};
-    uint64_t zero[COLDROOM_RECORD] = {0}, one[COLDROOM_RECORD] = {0}, sends[COLDROOM_SENDS] = {0};
+    uint64_t zero[COLDROOM_RECORD] = {0}, one[COLDROOM_RECORD] = {0}, sends[COLDROOM_SENDS];
     coldroom_open(2, 0, waits, COLDROOM_ROW, 1 << 1, zero, 1, sends);
     see(sends[COLDROOM_GRANT] == 1 << 1, "0 grants");
     coldroom_open(2, 1, waits + COLDROOM_ROW, COLDROOM_ROW, 0, one, 1, sends);

@@ -1,6 +1,6 @@
 -- What is known of a state that isn't refused, part by part. Assumes nothing.
 use mathlib.Core.Path.{◌≡◌, refl, ap, ap₂, subst}
-use mathlib.Core.Bool.{Bool, true, false, not, ◌||◌, true≢false}
+use mathlib.Core.Bool.{Bool, false, not, ◌||◌, true≢false}
 use mathlib.Core.List.{List}
 use Prim.Native.Nat.{ℕ, ◌+◌, ◌*◌, ◌≤◌, ◌<◌}
 use native.Mathlib.Omega.{arith}

@@ -15,7 +15,7 @@ use Rattle.step.specs.declared.answers.Answer.{Answer}
 use Rattle.step.specs.Answers.{code_of}
 use Rattle.lent.specs.declared.steps.Step.{Step}
 use Rattle.lent.specs.Steps.{step_of, answer_number}
-use Rattle.bench.specs.Bench.{Bench, After, bench, after}
+use Rattle.bench.specs.Bench.{Bench, After, after}
 use Rattle.bench.specs.Strange.{strange_bench, Good}
 use Rattle.bench.specs.Steps.{step_on, take_step}
 use Rattle.bench.specs.Runs.{run, said, run_on, answers_on, refuse_all, run_of}

@@ -1,5 +1,6 @@
 // Records, messages, steps and answers as numbers, in the lists that callers lend.
 #![tactic(auto)]
+
 mod kept;
 mod sending;
 mod steps;

@@ -9,7 +9,7 @@ use lib.Dec.{lit<}
 use lib.Arith.{digits_mod}
 use lib.Pow.{pow_pos, pow-add, pow-lt, shl-shr, ones_lt, shl_exact, high, low}
 use lib.Bits.{bit_and, bit_or, bit_xor, differ, and_shr, or_shr, xor_shr, and_step, or_step, xor_step, or_lt}
-use Rattle.nodes.specs.Sets.{bit, In, union, meet, minus, single, with, below, inside}
+use Rattle.nodes.specs.Sets.{bit, In, union, meet, minus, single, with, below}
 use Rattle.nodes.proofs.Bit.{bit_le, in_or_out, bit_above, in_lt, bit_mod, same, bit_empty}
 
 -- ---- union, meet, minus

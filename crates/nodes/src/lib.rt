@@ -1,5 +1,6 @@
 // Nodes, rounds, and sets of nodes. Nothing outside this crate shifts or masks.
 #![tactic(auto)]
+
 ghost use Rattle.std.specs.Prelude.{◌≡◌, ◌<◌, ◌≤◌, eqb};
 ghost use Rattle.nodes.specs.Sets.{bit, has, union, meet, minus, with, below, inside, members, size};
 ghost use Rattle.nodes.specs.Words.{places, num, first_of};

@@ -1,5 +1,6 @@
 // What a controller keeps and what it is told: records and messages, with no graph in sight.
 #![tactic(auto)]
+
 mod causes;
 mod messages;
 mod records;

@@ -1,5 +1,6 @@
 // A file of waits in, its graph's file out as the writer writes it, or the refusal.
 #![tactic(auto)]
+
 ghost use Rattle.std.specs.Prelude.{◌≡◌};
 ghost use Rattle.waits.specs.declared.numbers.Checked.TheVariants.{Accepted};
 ghost use Rattle.waits.specs.Numbers.{check_of};

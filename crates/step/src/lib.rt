@@ -1,5 +1,6 @@
 // How one node behaves: an opening, or a message, with nothing refused.
 #![tactic(auto)]
+
 mod answers;
 mod arrivals;
 mod awaited;

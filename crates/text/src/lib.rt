@@ -1,5 +1,6 @@
 // Text written into lent bytes, clipped at their end: a byte, bytes, a number in decimal. Digits read are in their own file.
 #![tactic(auto)]
+
 ghost use Rattle.std.specs.Prelude.{◌≡◌, [], ◌∷◌};
 ghost use Rattle.text.specs.Words.{decimal};
 ghost use Rattle.text.specs.Text.{text, write};

@@ -1,5 +1,6 @@
 // The graph of waits: what rows mean, and when they are refused.
 #![tactic(auto)]
+
 mod numbers;
 mod rows;
 

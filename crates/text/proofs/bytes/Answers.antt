@@ -2,7 +2,6 @@
 -- as found. Assumes nothing.
 use mathlib.Core.Path.{refl, ◌∙◌}
 use mathlib.Core.List.{[], ◌∷◌}
-use Prim.Native.Nat.{◌-◌}
 use native.Mathlib.Omega.{arith}
 use Rattle.text.proofs.Pieces.{left_next, left_none}
 use Rattle.text.proofs.bytes.Goals as goal

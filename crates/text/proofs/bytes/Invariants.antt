@@ -1,7 +1,6 @@
 -- `bytes` meets its contract. The loop's invariant: the bytes that are left make of the room what all of them make of the room
 -- as found. Assumes nothing.
 use mathlib.Core.Path.{◌≡◌}
-use mathlib.Core.List.{[]}
 use Prim.Native.Nat.{◌-◌}
 use lib.ListN.{length, drop}
 use Rattle.text.specs.Text.{text, write}

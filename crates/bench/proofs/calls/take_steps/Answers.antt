@@ -1,6 +1,5 @@
 -- `take_steps` meets its contract. Assumes nothing.
 use mathlib.Core.Path.{refl}
-use Prim.Native.Nat.{◌-◌}
 use native.Mathlib.Omega.{arith}
 use Rattle.bench.proofs.Turns.{turn_answer, turn_first, turn_next, turns_ended}
 use Rattle.bench.proofs.calls.take_steps.Goals as goal

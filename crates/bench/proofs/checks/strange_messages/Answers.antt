@@ -1,10 +1,7 @@
 -- `strange_messages` meets its contract. Assumes nothing.
 use mathlib.Core.Path.{refl}
-use Prim.Native.Nat.{◌-◌}
 use borrow.Author.Rules.{rules}
 use Rattle.bench.proofs.Made.{message_found, message_passed, messages_passed}
-use Rattle.bench.specs.Strange.{strange_message_on}
-use Rattle.lent.specs.Coded.{message_of}
 use Rattle.bench.proofs.checks.strange_messages.Goals as goal
 
 pub loop-k-init : goal.loop-k-init

@@ -1,6 +1,5 @@
 -- `strange_records` meets its contract. Assumes nothing.
 use mathlib.Core.Path.{◌≡◌, refl}
-use Prim.Native.Nat.{◌-◌}
 use native.Mathlib.Omega.{arith}
 use borrow.Author.Rules.{rules}
 use Rattle.bench.proofs.Made.{record_found, record_passed, records_passed}

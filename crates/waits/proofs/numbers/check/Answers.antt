@@ -1,6 +1,5 @@
 -- `check` meets its contract. The loop's invariant: the answer is that of the lines from row k on. Assumes nothing.
 use mathlib.Core.Path.{◌∙◌}
-use Prim.Native.Nat.{◌-◌}
 use native.Mathlib.Omega.{arith}
 use borrow.Author.Rules.{rules}
 use Rattle.lemmas.proofs.Cases.{flag}

@@ -1,12 +1,9 @@
 -- `check_row` meets its contract: each return is the line that says so, after those that do not. Assumes nothing.
-use mathlib.Core.Path.{◌≡◌, refl, ap}
+use mathlib.Core.Path.{refl, ap}
 use mathlib.Core.Bool.{not}
-use Prim.Native.Nat.{ℕ}
-use lib.ListN.{drop}
 use borrow.Author.Tests.{lt-ltb, le-ltb}
 use Rattle.lemmas.proofs.Cases.{at_true, at_false, flag}
-use Rattle.waits.specs.declared.numbers.Checked.{Checked}
-use Rattle.waits.specs.Numbers.{strange_kind, row_lines, first_said, check_row_of}
+use Rattle.waits.specs.Numbers.{strange_kind, check_row_of}
 use Rattle.waits.proofs.Cases.{strange, itself}
 use Rattle.waits.proofs.numbers.check_row.Goals as goal
 

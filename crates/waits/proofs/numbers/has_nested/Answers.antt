@@ -1,5 +1,5 @@
 -- `has_nested` meets its contract: the six pairs in turn. Assumes nothing.
-use mathlib.Core.Path.{◌≡◌, sym, ◌∙◌}
+use mathlib.Core.Path.{sym, ◌∙◌}
 use mathlib.Core.Bool.{or-false}
 use Rattle.lemmas.proofs.Cases.{or_here, or_later, flag}
 use Rattle.waits.proofs.Cases.{nested_four}

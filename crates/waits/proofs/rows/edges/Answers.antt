@@ -1,6 +1,5 @@
 -- `edges` meets its contract. The loop's invariant: the count is that of the nodes passed, at most 64 each. Assumes nothing.
 use mathlib.Core.Path.{◌≡◌, ap, sym, ◌∙◌}
-use Prim.Native.Nat.{◌-◌}
 use native.Mathlib.Omega.{arith}
 use borrow.Author.Rules.{rules}
 use Rattle.nodes.specs.Sets.{size}

@@ -1,8 +1,6 @@
 -- `in_of` meets its contract. The loop's invariant: the nodes passed that have j in OUT are gathered. Assumes nothing.
 use mathlib.Core.Bool.{true, false}
-use mathlib.Core.Logic.{⊎_elim}
 use mathlib.Core.Path.{◌≡◌, ap, sym, ◌∙◌}
-use Prim.Native.Nat.{◌-◌}
 use native.Mathlib.Omega.{arith}
 use borrow.Author.Rules.{rules}
 use Rattle.nodes.proofs.Gather.{gather_none, gather_next}
@@ -33,7 +31,7 @@ pub loop-i-preserved : goal.loop-i-preserved
 loop-i-preserved c = (
   omega arith,
   elim c.if-has.branch [
-    then-has w ↦ ap num w.found-is ∙ w.with-found.ensures ∙ gather_next _ _ _ true c.loop-i.invariant.1 (waits_on _ _ _ c.has.ensures c.out_of.ensures c.row_at-row.ensures w.if-has.true)
+    | then-has w ↦ ap num w.found-is ∙ w.with-found.ensures ∙ gather_next _ _ _ true c.loop-i.invariant.1 (waits_on _ _ _ c.has.ensures c.out_of.ensures c.row_at-row.ensures w.if-has.true)
     | else-has w ↦ ap num w.found-is ∙ gather_next _ _ _ false c.loop-i.invariant.1 (waits_on _ _ _ c.has.ensures c.out_of.ensures c.row_at-row.ensures w.if-has.false)
   ],
 )
