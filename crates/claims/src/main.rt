@@ -28,6 +28,7 @@ fn answer(output: &mut Stdout, errors: &mut Stderr, file: &[u8]) {
     explain(errors, file, end);
 }
 
+#[tactic(auto, unfolding(streams::specs::Streams::Within))]
 fn main(rt: HostRuntime) {
     let mut errors = rt.stderr();
     let mut file = file_room();

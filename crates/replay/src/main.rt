@@ -23,6 +23,7 @@ fn answer(output: &mut Stdout, errors: &mut Stderr, script: &[u8]) {
     explain(errors, script);
 }
 
+#[tactic(auto, unfolding(streams::specs::Streams::Within))]
 fn main(rt: HostRuntime) {
     let mut errors = rt.stderr();
     let mut script = script_room();

@@ -25,6 +25,7 @@ fn answer(output: &mut Stdout, errors: &mut Stderr, file: &[u8]) {
     explain(errors, file);
 }
 
+#[tactic(auto, unfolding(streams::specs::Streams::Within))]
 fn main(rt: HostRuntime) {
     let mut errors = rt.stderr();
     let mut file = file_room();
