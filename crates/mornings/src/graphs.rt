@@ -2,6 +2,7 @@
 ghost use Rattle.std.specs.Prelude.{◌≡◌, length};
 
 use crate::lines::checked;
+use std::io;
 use waits::ROW;
 
 pub const ACTIVE: [u64; 6] = [0; 6];
@@ -69,9 +70,15 @@ pub fn eight_each() -> [u64; 384] {
 }
 
 // Puts one more row into a graph of 64 nodes, with a line on it.
-pub fn with_row(label: &[u8], rows: [u64; 384], k: usize, row: [u64; 6]) -> [u64; 384] {
+pub fn with_row(
+    rt: &impl Print,
+    label: &[u8],
+    rows: [u64; 384],
+    k: usize,
+    row: [u64; 6],
+) -> io::Result<[u64; 384]> {
     let mut g = rows;
     put(&mut g, k, row);
-    checked(label, 64, &g);
-    g
+    checked(rt, label, 64, &g)?;
+    Ok(g)
 }

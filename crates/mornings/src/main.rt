@@ -1,6 +1,9 @@
 // The paper's mornings: their claims, their rounds and their runs; lists that are offered, bad input of every kind, and a
 // round in two orders.
 #![tactic(auto)]
+
+use std::io;
+
 mod claims;
 mod graphs;
 mod lines;
@@ -13,26 +16,26 @@ mod rounds;
 mod runs;
 mod say;
 
-fn main() {
-    say::text(b"The mornings\n");
-    mornings::small();
-    mornings::ninth();
-    mornings::eleventh();
-    say::text(b"\nLists\n");
-    lists::third();
-    lists::twelfth();
-    say::text(b"\nQuestions\n");
-    questions::nodes();
-    questions::lists();
-    questions::rooms();
-    questions::bad_row();
-    say::text(b"\nBad graphs\n");
-    refusals::counts();
-    refusals::rows();
-    refusals::order();
-    say::text(b"\nRuns\n");
-    runs::two_nodes();
-    runs::rounds();
-    say::text(b"\nOrders\n");
-    orders::both();
+fn main(rt: HostRuntime) -> io::Result<()> {
+    say::text(&rt, b"The mornings\n")?;
+    mornings::small(&rt)?;
+    mornings::ninth(&rt)?;
+    mornings::eleventh(&rt)?;
+    say::text(&rt, b"\nLists\n")?;
+    lists::third(&rt)?;
+    lists::twelfth(&rt)?;
+    say::text(&rt, b"\nQuestions\n")?;
+    questions::nodes(&rt)?;
+    questions::lists(&rt)?;
+    questions::rooms(&rt)?;
+    questions::bad_row(&rt)?;
+    say::text(&rt, b"\nBad graphs\n")?;
+    refusals::counts(&rt)?;
+    refusals::rows(&rt)?;
+    refusals::order(&rt)?;
+    say::text(&rt, b"\nRuns\n")?;
+    runs::two_nodes(&rt)?;
+    runs::rounds(&rt)?;
+    say::text(&rt, b"\nOrders\n")?;
+    orders::both(&rt)
 }

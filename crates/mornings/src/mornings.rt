@@ -1,6 +1,7 @@
 // The graphs of the paper's mornings. Papers count nodes from 1, and rows from 0.
 use crate::claims::morning;
 use crate::graphs::{ACTIVE, eight_each, flat, one_of, put, with_row};
+use std::io;
 use waits::ROW;
 
 // Document 000, figure 1.
@@ -53,49 +54,52 @@ pub fn second() -> [u64; 60] {
 }
 
 // What is said of the claims of the first rows of ten.
-fn graph(label: &[u8], nodes: usize, rows: [[u64; 6]; 10]) {
+fn graph(rt: &impl Print, label: &[u8], nodes: usize, rows: [[u64; 6]; 10]) -> io::Result<()> {
     let all = flat(rows);
     if nodes <= 10 {
         let end = nodes * ROW;
-        morning(label, nodes, &all[..end]);
+        morning(rt, label, nodes, &all[..end])?;
     }
+    Ok(())
 }
 
-pub fn small() {
-    graph(b"morning 1", 7, FIRST);
-    graph(b"morning 2", 10, SECOND);
-    morning(b"morning 4", 2, &FOURTH);
-    morning(b"morning 5", 1, &ACTIVE);
-    morning(b"morning 6", 2, &SIXTH);
-    graph(b"morning 10", 5, TENTH);
+pub fn small(rt: &impl Print) -> io::Result<()> {
+    graph(rt, b"morning 1", 7, FIRST)?;
+    graph(rt, b"morning 2", 10, SECOND)?;
+    morning(rt, b"morning 4", 2, &FOURTH)?;
+    morning(rt, b"morning 5", 1, &ACTIVE)?;
+    morning(rt, b"morning 6", 2, &SIXTH)?;
+    graph(rt, b"morning 10", 5, TENTH)
 }
 
 // 1 needs some of {2, 3, 4}; 2 active, 3 = 1, 4 = 1.
-fn votes(label: &[u8], needed: u64) {
+fn votes(rt: &impl Print, label: &[u8], needed: u64) -> io::Result<()> {
     let mut g = [0u64; 24];
     put(&mut g, 0, [1, needed, 0b1110, 0, 0, 0]);
     put(&mut g, 2, one_of(0b0001));
     put(&mut g, 3, one_of(0b0001));
-    morning(label, 4, &g);
+    morning(rt, label, 4, &g)
 }
 
-pub fn ninth() {
-    votes(b"morning 9, 2 of 3", 2);
-    votes(b"morning 9, 1 of 3", 1);
-    votes(b"morning 9, 3 of 3", 3);
-    votes(b"morning 9, 0 of 3", 0);
-    votes(b"morning 9, 4 of 3", 4);
+pub fn ninth(rt: &impl Print) -> io::Result<()> {
+    votes(rt, b"morning 9, 2 of 3", 2)?;
+    votes(rt, b"morning 9, 1 of 3", 1)?;
+    votes(rt, b"morning 9, 3 of 3", 3)?;
+    votes(rt, b"morning 9, 0 of 3", 0)?;
+    votes(rt, b"morning 9, 4 of 3", 4)
 }
 
 // The limits: 64 nodes and one more, 512 edges and one more.
-pub fn eleventh() {
-    morning(b"morning 11, 64 nodes", 64, &[0u64; 384]);
-    morning(b"morning 11, 65 nodes", 65, &[0u64; 390]);
-    morning(b"morning 11, 512 edges", 64, &eight_each());
+pub fn eleventh(rt: &impl Print) -> io::Result<()> {
+    morning(rt, b"morning 11, 64 nodes", 64, &[0u64; 384])?;
+    morning(rt, b"morning 11, 65 nodes", 65, &[0u64; 390])?;
+    morning(rt, b"morning 11, 512 edges", 64, &eight_each())?;
     with_row(
+        rt,
         b"morning 11, 513 edges",
         eight_each(),
         63,
         one_of(0b1_1111_1111),
-    );
+    )?;
+    Ok(())
 }

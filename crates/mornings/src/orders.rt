@@ -6,6 +6,7 @@ use crate::say::{members, number, text};
 use lent::record_at;
 use nodes::{Node, Set};
 use records::{Cause, Why};
+use std::io;
 use transcript::messages;
 
 const NODES: usize = 3;
@@ -25,7 +26,7 @@ const OLDEST_FIRST: [u8; 12] = [0, 1, 2, 3, 4, 5, 6, 7, 8, 9, 10, 11];
 const NEWEST_FIRST: [u8; 12] = [1, 3, 5, 6, 4, 7, 8, 2, 9, 10, 0, 11];
 
 // The nodes called, and those free.
-fn end(records: &[u64])
+fn end(rt: &impl Print, records: &[u64]) -> io::Result<()>
     requires { length records.now ≡ 21 }
 {
     let mut called = Set::empty();
@@ -43,53 +44,55 @@ fn end(records: &[u64])
         }
         k += 1;
     }
-    text(b", called");
-    members(called);
-    text(b", free");
-    members(free);
-    text(b"\n");
+    text(rt, b", called")?;
+    members(rt, called)?;
+    text(rt, b", free")?;
+    members(rt, free)?;
+    text(rt, b"\n")
 }
 
 // A line on a node that another called.
-fn caller(k: usize, call: Cause) {
+fn caller(rt: &impl Print, k: usize, call: Cause) -> io::Result<()> {
     let why = call.why();
     if let Why::By(c) = why {
-        text(b"node ");
-        number(k as u64);
-        text(b" called by ");
-        number(c.0 as u64);
-        text(b"\n");
+        text(rt, b"node ")?;
+        number(rt, k as u64)?;
+        text(rt, b" called by ")?;
+        number(rt, c.0 as u64)?;
+        text(rt, b"\n")?;
     }
+    Ok(())
 }
 
 // A line on each of them.
-fn callers(records: &[u64])
+fn callers(rt: &impl Print, records: &[u64]) -> io::Result<()>
     requires { length records.now ≡ 21 }
 {
     let mut k: usize = 0;
     while k < NODES {
         let kept = record_at(records, Node(k));
         let call = kept.call;
-        caller(k, call);
+        caller(rt, k, call)?;
         k += 1;
     }
+    Ok(())
 }
 
 // The room is just what the messages take.
-fn ordered(label: &[u8], order: &[u8]) {
+fn ordered(rt: &impl Print, label: &[u8], order: &[u8]) -> io::Result<()> {
     let mut records = [0u64; KEPT];
     let mut sent = [0u64; SENT];
     let mut room = [0u8; 512];
-    text(label);
-    text(b": a round ");
-    full_round(NODES, &ROWS, &mut records, &mut sent, 0, order);
-    end(&records);
-    callers(&records);
+    text(rt, label)?;
+    text(rt, b": a round ")?;
+    full_round(rt, NODES, &ROWS, &mut records, &mut sent, 0, order)?;
+    end(rt, &records)?;
+    callers(rt, &records)?;
     let written = messages(&mut room, 0, &sent, SENT);
-    text(&room[..written]);
+    text(rt, &room[..written])
 }
 
-pub fn both() {
-    ordered(b"oldest first", &OLDEST_FIRST);
-    ordered(b"newest first", &NEWEST_FIRST);
+pub fn both(rt: &impl Print) -> io::Result<()> {
+    ordered(rt, b"oldest first", &OLDEST_FIRST)?;
+    ordered(rt, b"newest first", &NEWEST_FIRST)
 }

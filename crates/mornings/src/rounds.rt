@@ -4,6 +4,7 @@ use crate::say::{number, refusal, text};
 use bench::Reply;
 use lent::{RECORDS, Step, record_numbers};
 use nodes::Round;
+use std::io;
 use step::{Answer, Verdict};
 
 // The most messages that a bench holds.
@@ -29,15 +30,16 @@ fn heard(before: Verdict, answer: Answer) -> Verdict {
     }
 }
 
-fn ended(sent: usize, verdict: Verdict) {
-    text(b"sends ");
-    number(sent as u64);
-    text(b" and says ");
+fn ended(rt: &impl Print, sent: usize, verdict: Verdict) -> io::Result<()> {
+    text(rt, b"sends ")?;
+    number(rt, sent as u64)?;
+    text(rt, b" and says ")?;
     match verdict {
-        Verdict::NoVerdict => text(b"nothing"),
-        Verdict::Deadlocked => text(b"deadlocked"),
-        Verdict::NotDeadlocked => text(b"not deadlocked"),
+        Verdict::NoVerdict => text(rt, b"nothing")?,
+        Verdict::Deadlocked => text(rt, b"deadlocked")?,
+        Verdict::NotDeadlocked => text(rt, b"not deadlocked")?,
     }
+    Ok(())
 }
 
 // Which message comes after k others: as the order says, and past its end message k.
@@ -50,13 +52,14 @@ fn message(order: &[u8], k: usize) -> u64 {
 
 // Delivers every message of a round that was opened. An order has each once, so when as many came as were sent, all did.
 fn deliver(
+    rt: &impl Print,
     nodes: usize,
     rows: &[u64],
     records: &mut [u64],
     messages: &mut [u64],
     opened: Reply,
     order: &[u8],
-) {
+) -> io::Result<()> {
     let first = opened.answer;
     let top = opened.highest;
     let mut sent = opened.sent;
@@ -77,18 +80,19 @@ fn deliver(
         verdict = heard(verdict, answer);
         k += 1;
     }
-    ended(sent, verdict);
+    ended(rt, sent, verdict)
 }
 
 // The rest of a line: what a round from a node comes to, on a fresh bench and in an order.
 pub fn full_round(
+    rt: &impl Print,
     nodes: usize,
     rows: &[u64],
     records: &mut [u64],
     messages: &mut [u64],
     node: usize,
     order: &[u8],
-) {
+) -> io::Result<()> {
     let s = Step {
         kind: 0,
         a: node as u64,
@@ -97,26 +101,34 @@ pub fn full_round(
     let opened = bench::step(nodes, rows, records, messages, 0, Round(0), s);
     let answer = opened.answer;
     if let Answer::Refused(r) = answer {
-        text(b"is ");
-        refusal(r);
-        return;
+        text(rt, b"is ")?;
+        refusal(rt, r)?;
+        return Ok(());
     }
-    deliver(nodes, rows, records, messages, opened, order);
+    deliver(rt, nodes, rows, records, messages, opened, order)
 }
 
 // The part of the records that a graph has.
-fn begin(nodes: usize, rows: &[u64], records: &mut [u64], messages: &mut [u64], node: usize) {
+fn begin(
+    rt: &impl Print,
+    nodes: usize,
+    rows: &[u64],
+    records: &mut [u64],
+    messages: &mut [u64],
+    node: usize,
+) -> io::Result<()> {
     let size = record_numbers(nodes);
     if size <= records.len() {
         let none = [0u8; 0];
-        full_round(nodes, rows, &mut records[..size], messages, node, &none);
+        full_round(rt, nodes, rows, &mut records[..size], messages, node, &none)?;
     }
+    Ok(())
 }
 
 // The rest of a line: what a round from a node comes to.
-pub fn round(nodes: usize, rows: &[u64], node: usize) {
+pub fn round(rt: &impl Print, nodes: usize, rows: &[u64], node: usize) -> io::Result<()> {
     let mut records = [0u64; RECORDS];
     let mut messages = [0u64; ROOM];
-    text(b", a round ");
-    begin(nodes, rows, &mut records, &mut messages, node);
+    text(rt, b", a round ")?;
+    begin(rt, nodes, rows, &mut records, &mut messages, node)
 }
