@@ -57,6 +57,7 @@ fn check_kept(nodes: usize, me: Node, row: &[u64], ins: Set, kept: Record) -> Ch
 }
 
 // An opening: the same, then 10.
+#[tactic(auto, using(crate::proofs::Told::open_kept, crate::proofs::Told::open_told, crate::proofs::Told::open_taken))]
 pub fn check_open(
     nodes: usize,
     me: Node,
@@ -79,6 +80,7 @@ pub fn check_open(
 }
 
 // A delivery: the same, then 13 for the message.
+#[tactic(auto, using(crate::proofs::Told::deliver_kept, crate::proofs::Told::deliver_told, crate::proofs::Told::deliver_taken))]
 pub fn check_deliver(
     nodes: usize,
     me: Node,
