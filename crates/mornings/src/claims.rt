@@ -1,5 +1,5 @@
 // What is said of every claim of a graph, and what a round from it comes to.
-use crate::lines::{bytes, checked};
+use crate::parts::{bytes, checked};
 use crate::rounds::round;
 use crate::say::{members, number, refusal, text};
 use deadlock::{Claim, Found, Report, Written};

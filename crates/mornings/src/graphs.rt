@@ -1,7 +1,7 @@
 // Graphs, row by row. Sets are written in binary: the last digit is node 0.
 ghost use Rattle.std.specs.Prelude.{◌≡◌, length};
 
-use crate::lines::checked;
+use crate::parts::checked;
 use std::io;
 use waits::ROW;
 

@@ -1,6 +1,6 @@
 // Lists that are offered as evidence in the second morning.
-use crate::lines::{about, bytes};
 use crate::mornings::second;
+use crate::parts::{about, bytes};
 use crate::say::{number, refusal, text};
 use deadlock::Judged;
 use nodes::Node;

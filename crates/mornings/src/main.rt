@@ -6,10 +6,10 @@ use std::io;
 
 mod claims;
 mod graphs;
-mod lines;
 mod lists;
 mod mornings;
 mod orders;
+mod parts;
 mod questions;
 mod refusals;
 mod rounds;

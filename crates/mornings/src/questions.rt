@@ -1,9 +1,9 @@
 // Questions about the second morning that are refused, and lent room.
 use crate::claims::asked;
 use crate::graphs::put;
-use crate::lines::{about, bytes};
 use crate::lists::{judged, offered};
 use crate::mornings::second;
+use crate::parts::{about, bytes};
 use crate::say::{number, refusal, text};
 use deadlock::Written;
 use nodes::Node;

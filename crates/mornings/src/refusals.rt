@@ -1,6 +1,6 @@
 // Bad graphs of every kind, for each number of the table.
 use crate::graphs::{eight_each, one_of, put, with_row};
-use crate::lines::{answer, checked};
+use crate::parts::{answer, checked};
 use crate::say::{number, text};
 use std::io;
 

@@ -1,5 +1,5 @@
 // A full round: opened at a node of a fresh bench, every message delivered, in the order of their numbers or in another.
-use crate::lines::wide;
+use crate::parts::wide;
 use crate::say::{number, refusal, text};
 use bench::Reply;
 use lent::{RECORDS, Step, record_numbers};
