@@ -1,4 +1,4 @@
-/* coldroom.h: the deadlock detector for voting claims, for C99. Link libcoldroom.a (`rt staticlib coldroom`).
+/* coldroom.h: the deadlock detector for voting claims, for C99. Link libcoldroom.a (`scripts/build coldroom`).
  *
  * Each call of the library is proved to do what is said of it here for every input, bad input too: nothing undefined happens, it
  * ends, and a call that is refused leaves all lent memory as it was. There is no heap, no state between calls and no other library.
