@@ -19,7 +19,7 @@ DECLARED = re.compile(r"^(\s*)(?:(?:abbrev|unfoldable|pub)\s+)*(" + NAME + r")\s
 ALIAS = re.compile(r"(?<=\sas\s)(" + NAME + r")(?=\s*[,}])")
 PLACED = ("Proof.antt", "Answers.antt", "Invariants.antt")
 # What port.py spelled as a type though it is a word; and what a file calls another's word, which would get the name of a definition.
-MENDED = {"Frees-of": "frees_of", "run_of": "the_run", "blank_of": "the_blank"}
+MENDED = {"Frees-of": "frees_of", "ahead_of_lem": "ahead_of", "run_of": "the_run", "blank_of": "the_blank"}
 # Fields of records in specs/ that would get the name of a definition.
 FIELDS = {"sends-after": "sends_left", "as-set": "as_a_set"}
 
@@ -39,13 +39,13 @@ def snake(name):
 
 
 def declared(text):
-    """Names at the margin, fields below a record, and both of these within a module."""
+    """Names at the margin, fields below a record, both of these within a module, and dashed ones that stand under another."""
     found, inside = set(), False
     for line in text.split("\n"):
         if re.match(r"\S", line):
             inside = bool(re.match(r"(pub\s+)?(record|module)\b", line))
         m = DECLARED.match(line)
-        if m and (m.group(1) == "" or (inside and len(m.group(1)) in (2, 4))):
+        if m and (m.group(1) == "" or inside or "-" in m.group(2)):
             found.add(m.group(2))
     return found
 
@@ -53,8 +53,8 @@ def declared(text):
 def table(texts):
     own = set()
     for path, text in texts.items():
-        # A file of this name in proofs/ declares what Rattle names.
-        made = "/proofs/" in path and os.path.basename(path) in PLACED
+        # A file of this name in a folder of proofs/ declares what Rattle names.
+        made = re.search(r"/proofs/.+/", path) is not None and os.path.basename(path) in PLACED
         if path.endswith(".antt") and not made:
             own |= declared(text)
         own |= set(ALIAS.findall(text))

@@ -39,7 +39,7 @@ use Rattle.deadlock.specs.Waiters.{InSays}
 use Rattle.deadlock.specs.Sweeps.{knot}
 use Rattle.deadlock.proofs.Refused.{room_accepted}
 use Rattle.deadlock.proofs.Judging.{judged_refusal, judged_said, member_node}
-use Rattle.deadlock.proofs.Answers.{room-write, asked-evidence, list-shaped}
+use Rattle.deadlock.proofs.Answers.{room_write, asked_evidence, list_shaped}
 use Rattle.deadlock.proofs.Unique.{one_evidence}
 use Rattle.step.specs.Step.{Outcome, open_round, receive}
 use Rattle.step.proofs.Answered.{Plain, open_answer, receive_answer}
@@ -154,7 +154,7 @@ module _ (n : ℕ) (rows : List ℕ) (r : Refusal) where
 pub member_few : (n : ℕ) (rows : List ℕ) (i : ℕ) (l : List ℕ) (k : Node) → judged_of n rows i l ≡ MemberSatisfied k → k.0 < places
 member_few n rows i l k e =
     let ok = ((judged_said n rows i l (MemberSatisfied k) (λ r q. true≢false (cc q))).0 e).0 in
-    omega (arith, member_node n rows i l k e, (list-shaped n rows i l ok).0.0)
+    omega (arith, member_node n rows i l k e, (list_shaped n rows i l ok).0.0)
 
 -- evidence has no more bytes than there are nodes
 pub evidence_few : (n : ℕ) (rows : List ℕ) (i : ℕ) (found left : List ℕ) (x : Written) (k : ℕ) → WrittenSays n rows i found left x → x ≡ Bytes k → k ≤ places
@@ -163,7 +163,7 @@ evidence_few n rows i found left x k p e = go (subst (WrittenSays n rows i found
     go : WrittenSays n rows i found left (Bytes k) → k ≤ places
     go (ok, (l, evidence, count, bytes)) =
         let s = knot (waits_of n rows) i in
-        let fits = room-write n rows i found s ok refl in
-        let same : l ≡ members s = one_evidence (waits_of n rows) i l (members s) evidence (asked-evidence n rows i (room_accepted n rows i (length found) ok).0 s refl) in
+        let fits = room_write n rows i found s ok refl in
+        let same : l ≡ members s = one_evidence (waits_of n rows) i l (members s) evidence (asked_evidence n rows i (room_accepted n rows i (length found) ok).0 s refl) in
         let all : k ≡ length (listed s n) = count ∙ ap length (same ∙ sym (listed_all n s fits.0)) in
         omega (arith, all, listed_length s n, fits.1)

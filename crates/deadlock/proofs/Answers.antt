@@ -34,11 +34,11 @@ use Rattle.deadlock.proofs.Refused.{node_fine, node_accepted, list_accepted, roo
 
 -- ---- over any lawful graph of waits, and a node of it
 module _ (w : Waits) (law : Lawful w) (i : ℕ) (h : i < w.nodes) where
-  stuck-yes : has (stuck w) i ≡ true → Deadlocked w i
-  stuck-yes e = ((stuck_iff w law i).0 (has_in (stuck w) i e)).1
+  stuck_yes : has (stuck w) i ≡ true → Deadlocked w i
+  stuck_yes e = ((stuck_iff w law i).0 (has_in (stuck w) i e)).1
 
-  stuck-no : has (stuck w) i ≡ false → Deadlocked w i → ⊥
-  stuck-no e d = not_both (in_has (stuck w) i ((stuck_iff w law i).1 (h, d))) e
+  stuck_no : has (stuck w) i ≡ false → Deadlocked w i → ⊥
+  stuck_no e d = not_both (in_has (stuck w) i ((stuck_iff w law i).1 (h, d))) e
 
   pub reached : (j : ℕ) → In j (with (ahead w i) i) ↔ Reachable w i j
   reached j = (
@@ -47,23 +47,23 @@ module _ (w : Waits) (law : Lawful w) (i : ℕ) (h : i < w.nodes) where
   )
 
   -- the evidence as a set has exactly the nodes of the evidence
-  in-knot : (b : Bool) → has (stuck w) i ≡ b → (j : ℕ)
+  in_knot : (b : Bool) → has (stuck w) i ≡ b → (j : ℕ)
       → In j (cond b (meet (stuck w) (with (ahead w i) i)) 0) ↔ (Deadlocked w i × Deadlocked w j × Reachable w i j)
-  in-knot true e j = (
-    λ m. let p = (in_meet (stuck w) (with (ahead w i) i) j).0 m in (stuck-yes e, ((stuck_iff w law j).0 p.0).1, (reached j).0 p.1),
+  in_knot true e j = (
+    λ m. let p = (in_meet (stuck w) (with (ahead w i) i) j).0 m in (stuck_yes e, ((stuck_iff w law j).0 p.0).1, (reached j).0 p.1),
     λ t. (in_meet (stuck w) (with (ahead w i) i) j).1 ((stuck_iff w law j).1 (reachable_node w law h t.2, t.1), (reached j).1 t.2),
   )
-  in-knot false e j = (λ m. absurd (let z = bit_empty j in omega arith), λ t. absurd (stuck-no e t.0))
+  in_knot false e j = (λ m. absurd (let z = bit_empty j in omega arith), λ t. absurd (stuck_no e t.0))
 
-  pub knot-iff : (j : ℕ) → In j (knot w i) ↔ (Deadlocked w i × Deadlocked w j × Reachable w i j)
+  pub knot_iff : (j : ℕ) → In j (knot w i) ↔ (Deadlocked w i × Deadlocked w j × Reachable w i j)
   unfolding knot
-  knot-iff = in-knot (has (stuck w) i) refl
+  knot_iff = in_knot (has (stuck w) i) refl
 
   -- listed, it is the evidence
-  pub knot-evidence : Evidence w i (members (knot w i))
-  knot-evidence = record {
+  pub knot_evidence : Evidence w i (members (knot w i))
+  knot_evidence = record {
     ascends = members_ascending _;
-    members = λ j. (λ m. (knot-iff j).0 ((members_in _ j).0 m), λ t. (members_in _ j).1 ((knot-iff j).1 t));
+    members = λ j. (λ m. (knot_iff j).0 ((members_in _ j).0 m), λ t. (members_in _ j).1 ((knot_iff j).1 t));
   }
 
 -- ---- all claims of a graph that isn't refused
@@ -79,24 +79,24 @@ module _ (n : ℕ) (rows : List ℕ) (i : ℕ) (ok : check_node_of n rows i ≡ 
   here : i < n
   here = (node_accepted n rows i ok).1
 
-  pub node-shaped : Shaped n rows × (i < n)
-  node-shaped = (accepted_shaped n rows (node_accepted n rows i ok).0, here)
+  pub node_shaped : Shaped n rows × (i < n)
+  node_shaped = (accepted_shaped n rows (node_accepted n rows i ok).0, here)
 
   pub is_stuck : has (stuck (waits_of n rows)) i ≡ true → Deadlocked (waits_of n rows) i
-  is_stuck = stuck-yes (waits_of n rows) law i here
+  is_stuck = stuck_yes (waits_of n rows) law i here
 
   pub not_stuck : has (stuck (waits_of n rows)) i ≡ false → Deadlocked (waits_of n rows) i → ⊥
-  not_stuck = stuck-no (waits_of n rows) law i here
+  not_stuck = stuck_no (waits_of n rows) law i here
 
   -- where it stands, from the stuck nodes and those to which a path leads from it within them
-  pub not-in-ring : has (stuck (waits_of n rows)) i ≡ false → ReportSays n rows i NotDeadlocked
-  not-in-ring e = (ok, not_stuck e)
+  pub not_in_ring : has (stuck (waits_of n rows)) i ≡ false → ReportSays n rows i NotDeadlocked
+  not_in_ring e = (ok, not_stuck e)
 
   pub in_ring : has (stuck (waits_of n rows)) i ≡ true → has (led (waits_of n rows) i) i ≡ true → ReportSays n rows i InRing
   in_ring e f = (ok, is_stuck e, (leads_iff (waits_of n rows) law i (has_in _ _ e) i).0 (has_in _ _ f))
 
-  pub behind-ring : has (stuck (waits_of n rows)) i ≡ true → has (led (waits_of n rows) i) i ≡ false → ReportSays n rows i BehindRing
-  behind-ring e f = (ok, is_stuck e, λ r. not_both (in_has _ _ ((leads_iff (waits_of n rows) law i (has_in _ _ e) i).1 r)) f)
+  pub behind_ring : has (stuck (waits_of n rows)) i ≡ true → has (led (waits_of n rows) i) i ≡ false → ReportSays n rows i BehindRing
+  behind_ring e f = (ok, is_stuck e, λ r. not_both (in_has _ _ ((leads_iff (waits_of n rows) law i (has_in _ _ e) i).1 r)) f)
 
   -- Theorem: if it is deadlocked, it leads to a node that is reported as in the ring.
   pub to_ring : Deadlocked (waits_of n rows) i → (j : ℕ) × LeadsTo (waits_of n rows) i j × ReportSays n rows j InRing
@@ -105,34 +105,34 @@ module _ (n : ℕ) (rows : List ℕ) (i : ℕ) (ok : check_node_of n rows i ≡ 
       let (j, l, r) = leads_to_ring (waits_of n rows) law (accepted_met n rows graph) i here d in
       (j, l, (node_fine n rows j graph (path_node (waits_of n rows) law here l.0), through_first (waits_of n rows) (Deadlocked (waits_of n rows)) r.0 r.1, r))
 
-  knot-below : (s : ℕ) → s ≡ knot (waits_of n rows) i → Inside s (below n)
-  knot-below s e = rw e (inside_in _ _ (λ j m. (in_below n j).1 (reachable_node (waits_of n rows) law here ((knot-iff (waits_of n rows) law i here j).0 m).2)))
+  knot_below : (s : ℕ) → s ≡ knot (waits_of n rows) i → Inside s (below n)
+  knot_below s e = rw e (inside_in _ _ (λ j m. (in_below n j).1 (reachable_node (waits_of n rows) law here ((knot_iff (waits_of n rows) law i here j).0 m).2)))
 
-  pub asked-evidence : (s : ℕ) → s ≡ knot (waits_of n rows) i → Evidence (waits_of n rows) i (members s)
-  asked-evidence s e = rw e (knot-evidence (waits_of n rows) law i here)
+  pub asked_evidence : (s : ℕ) → s ≡ knot (waits_of n rows) i → Evidence (waits_of n rows) i (members s)
+  asked_evidence s e = rw e (knot_evidence (waits_of n rows) law i here)
 
 -- ---- lent room
-pub room-shaped : (n : ℕ) (rows : List ℕ) (i room : ℕ) → check_room_of n rows i room ≡ Accepted → Shaped n rows × (i < n)
-room-shaped n rows i room ok = node-shaped n rows i (room_accepted n rows i room ok).0
+pub room_shaped : (n : ℕ) (rows : List ℕ) (i room : ℕ) → check_room_of n rows i room ≡ Accepted → Shaped n rows × (i < n)
+room_shaped n rows i room ok = node_shaped n rows i (room_accepted n rows i room ok).0
 
-pub room-write : (n : ℕ) (rows : List ℕ) (i : ℕ) (found : List ℕ) (s : ℕ) → check_room_of n rows i (length found) ≡ Accepted → s ≡ knot (waits_of n rows) i
+pub room_write : (n : ℕ) (rows : List ℕ) (i : ℕ) (found : List ℕ) (s : ℕ) → check_room_of n rows i (length found) ≡ Accepted → s ≡ knot (waits_of n rows) i
     → Inside s (below n) × (n ≤ places) × (n ≤ length found)
-room-write n rows i found s ok e =
+room_write n rows i found s ok e =
     let p = room_accepted n rows i (length found) ok in
-    (knot-below n rows i p.0 s e, (node-shaped n rows i p.0).0.0, p.1)
+    (knot_below n rows i p.0 s e, (node_shaped n rows i p.0).0.0, p.1)
 
-pub room-written : (n : ℕ) (rows : List ℕ) (i : ℕ) (found left : List ℕ) (s k : ℕ) → check_room_of n rows i (length found) ≡ Accepted → s ≡ knot (waits_of n rows) i
+pub room_written : (n : ℕ) (rows : List ℕ) (i : ℕ) (found left : List ℕ) (s k : ℕ) → check_room_of n rows i (length found) ≡ Accepted → s ≡ knot (waits_of n rows) i
     → (k ≡ size s) × (left ≡ members s ++ drop (size s) found) → WrittenSays n rows i found left (Bytes k)
-room-written n rows i found left s k ok e w = (
+room_written n rows i found left s k ok e w = (
   ok,
   (
     members s,
-    asked-evidence n rows i (room_accepted n rows i (length found) ok).0 s e,
+    asked_evidence n rows i (room_accepted n rows i (length found) ok).0 s e,
     w.0 ∙ size_members s,
     w.1 ∙ ap (λ (x : ℕ). members s ++ drop x found) (sym w.0),
   ),
 )
 
 -- ---- a list that is offered
-pub list-shaped : (n : ℕ) (rows : List ℕ) (i : ℕ) (l : List ℕ) → check_list_of n rows i l ≡ Accepted → Shaped n rows × (strange_entry n l ≡ false)
-list-shaped n rows i l ok = let p = list_accepted n rows i l ok in ((node-shaped n rows i p.0).0, p.1)
+pub list_shaped : (n : ℕ) (rows : List ℕ) (i : ℕ) (l : List ℕ) → check_list_of n rows i l ≡ Accepted → Shaped n rows × (strange_entry n l ≡ false)
+list_shaped n rows i l ok = let p = list_accepted n rows i l ok in ((node_shaped n rows i p.0).0, p.1)

@@ -61,30 +61,30 @@ module _ (w : Waits) (g : ℕ) where
 
   first_none : (l : List ℕ) → (first_satisfied w g l ≡ Passes) ↔ Unsatisfied l
   first_none [] = (λ e j m. absurd (elim m [ ]), λ h. refl)
-  first_none (a ∷ l) = by-head (w.holds a g) refl (first_none l)
+  first_none (a ∷ l) = by_head (w.holds a g) refl (first_none l)
     where
-      by-head : (b : Bool) → w.holds a g ≡ b → (first_satisfied w g l ≡ Passes) ↔ Unsatisfied l
+      by_head : (b : Bool) → w.holds a g ≡ b → (first_satisfied w g l ≡ Passes) ↔ Unsatisfied l
           → (cond b (MemberSatisfied (record { 0 = a })) (first_satisfied w g l) ≡ Passes) ↔ Unsatisfied (a ∷ l)
-      by-head true e ih = (λ q. absurd (true≢false (cc q)), λ h. absurd (not_both e (h a (here refl))))
-      by-head false e ih = (λ q. one_more a l e (ih.0 q), λ h. ih.1 (λ j m. h j (there m)))
+      by_head true e ih = (λ q. absurd (true≢false (cc q)), λ h. absurd (not_both e (h a (here refl))))
+      by_head false e ih = (λ q. one_more a l e (ih.0 q), λ h. ih.1 (λ j m. h j (there m)))
 
   -- k is a member whose condition holds, and no member before that place has one that does
   abbrev Foremost : List ℕ → ℕ → Type 0
   Foremost l k = (before : List ℕ) × (after : List ℕ) × (l ≡ before ++ k ∷ after) × (w.holds k g ≡ true) × Unsatisfied before
 
   first_member : (l : List ℕ) (k : Node) → (first_satisfied w g l ≡ MemberSatisfied k) ↔ Foremost l k.0
-  first_member l k = (there-is l, λ p. ap (first_satisfied w g) p.2 ∙ said p.0 p.1 p.3 p.4)
+  first_member l k = (there_is l, λ p. ap (first_satisfied w g) p.2 ∙ said p.0 p.1 p.3 p.4)
     where
-      there-is : (l : List ℕ) → first_satisfied w g l ≡ MemberSatisfied k → Foremost l k.0
-      there-is [] q = absurd (true≢false (cc q))
-      there-is (a ∷ l) q = by-head (w.holds a g) refl (there-is l) q
+      there_is : (l : List ℕ) → first_satisfied w g l ≡ MemberSatisfied k → Foremost l k.0
+      there_is [] q = absurd (true≢false (cc q))
+      there_is (a ∷ l) q = by_head (w.holds a g) refl (there_is l) q
         where
-          by-head : (b : Bool) → w.holds a g ≡ b → (first_satisfied w g l ≡ MemberSatisfied k → Foremost l k.0)
+          by_head : (b : Bool) → w.holds a g ≡ b → (first_satisfied w g l ≡ MemberSatisfied k → Foremost l k.0)
               → cond b (MemberSatisfied (record { 0 = a })) (first_satisfied w g l) ≡ MemberSatisfied k → Foremost (a ∷ l) k.0
-          by-head true e ih q =
+          by_head true e ih q =
               let same : a ≡ k.0 = cc q in
               ([], l, ap (λ (x : ℕ). x ∷ l) same, ap (λ (x : ℕ). w.holds x g) (sym same) ∙ e, λ j m. absurd (elim m [ ]))
-          by-head false e ih q = let (before, after, s, h, u) = ih q in (a ∷ before, after, ap (λ (x : List ℕ). a ∷ x) s, h, one_more a before e u)
+          by_head false e ih q = let (before, after, s, h, u) = ih q in (a ∷ before, after, ap (λ (x : List ℕ). a ∷ x) s, h, one_more a before e u)
 
       said : (before after : List ℕ) → w.holds k.0 g ≡ true → Unsatisfied before → first_satisfied w g (before ++ k.0 ∷ after) ≡ MemberSatisfied k
       said [] after h u = sym (at_true _ h refl)
@@ -109,11 +109,11 @@ module _ (w : Waits) (i : ℕ) (l : List ℕ) where
 
   -- anything else is said of a list that has it, by what its members need
   of_members : {y : Judged} {Q : Type 0} → (ClaimMissing ≡ y → ⊥) → (first_satisfied w (outside w l) l ≡ y) ↔ Q → (judgement w i l ≡ y) ↔ (Memᴰ i l × Q)
-  of_members {y} {Q} apart f = (λ e. by-claim e (true_or_false (has (set_of l) i)), λ p. asked_members p.0 ∙ f.1 p.1)
+  of_members {y} {Q} apart f = (λ e. by_claim e (true_or_false (has (set_of l) i)), λ p. asked_members p.0 ∙ f.1 p.1)
     where
-      by-claim : judgement w i l ≡ y → (has (set_of l) i ≡ true) ⊎ (has (set_of l) i ≡ false) → Memᴰ i l × Q
-      by-claim e (inl h) = let m = in_list l i (has_in (set_of l) i h) in (m, f.0 (sym (asked_members m) ∙ e))
-      by-claim e (inr h) = absurd (apart (sym (not_there (λ m. not_both (in_has (set_of l) i (list_in l i m)) h)) ∙ e))
+      by_claim : judgement w i l ≡ y → (has (set_of l) i ≡ true) ⊎ (has (set_of l) i ≡ false) → Memᴰ i l × Q
+      by_claim e (inl h) = let m = in_list l i (has_in (set_of l) i h) in (m, f.0 (sym (asked_members m) ∙ e))
+      by_claim e (inr h) = absurd (apart (sym (not_there (λ m. not_both (in_has (set_of l) i (list_in l i m)) h)) ∙ e))
 
   -- Law: a list is said to pass exactly if it passes.
   pub judgement_passes : (judgement w i l ≡ Passes) ↔ (passes w i l ≡ true)
@@ -147,20 +147,20 @@ module _ (n : ℕ) (rows : List ℕ) (i : ℕ) (l : List ℕ) where
   -- Law: the answer is a refusal exactly if the list is refused with it;
   pub judged_refusal : (r : Refusal) → (judged_of n rows i l ≡ Judged-as-Refused r) ↔ (check_list_of n rows i l ≡ Refused r)
   unfolding judged_of
-  judged_refusal r = by-check (check_list_of n rows i l) (judgement (waits_of n rows) i l) (judgement_plain (waits_of n rows) i l r)
+  judged_refusal r = by_check (check_list_of n rows i l) (judgement (waits_of n rows) i l) (judgement_plain (waits_of n rows) i l r)
     where
-      by-check : (c : Checked) (x : Judged) → (x ≡ Judged-as-Refused r → ⊥) → (judged c x ≡ Judged-as-Refused r) ↔ (c ≡ Refused r)
-      by-check Accepted x plain = (λ e. absurd (plain e), λ e. absurd (refused_not_accepted (sym e)))
-      by-check (Refused t) x plain = (λ e. let same : t ≡ r = cc e in ap Refused same, λ e. let same : t ≡ r = cc e in ap Judged-as-Refused same)
+      by_check : (c : Checked) (x : Judged) → (x ≡ Judged-as-Refused r → ⊥) → (judged c x ≡ Judged-as-Refused r) ↔ (c ≡ Refused r)
+      by_check Accepted x plain = (λ e. absurd (plain e), λ e. absurd (refused_not_accepted (sym e)))
+      by_check (Refused t) x plain = (λ e. let same : t ≡ r = cc e in ap Refused same, λ e. let same : t ≡ r = cc e in ap Judged-as-Refused same)
 
   -- Law: and it is anything else exactly if the list isn't refused and that is what is said of it.
   pub judged_said : (y : Judged) → ((r : Refusal) → y ≡ Judged-as-Refused r → ⊥)
       → (judged_of n rows i l ≡ y) ↔ ((check_list_of n rows i l ≡ Accepted) × (judgement (waits_of n rows) i l ≡ y))
-  judged_said y plain = (by-check (check_list_of n rows i l) refl, λ p. sym (judged_as p.0) ∙ p.1)
+  judged_said y plain = (by_check (check_list_of n rows i l) refl, λ p. sym (judged_as p.0) ∙ p.1)
     where
-      by-check : (c : Checked) → check_list_of n rows i l ≡ c → judged_of n rows i l ≡ y → (check_list_of n rows i l ≡ Accepted) × (judgement (waits_of n rows) i l ≡ y)
-      by-check Accepted q e = (q, judged_as q ∙ e)
-      by-check (Refused t) q e = absurd (plain t (sym (judged_refused q ∙ e)))
+      by_check : (c : Checked) → check_list_of n rows i l ≡ c → judged_of n rows i l ≡ y → (check_list_of n rows i l ≡ Accepted) × (judgement (waits_of n rows) i l ≡ y)
+      by_check Accepted q e = (q, judged_as q ∙ e)
+      by_check (Refused t) q e = absurd (plain t (sym (judged_refused q ∙ e)))
 
   -- Law: the member that is named is a node of the graph.
   pub member_node : (k : Node) → judged_of n rows i l ≡ MemberSatisfied k → k.0 < n

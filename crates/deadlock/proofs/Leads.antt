@@ -18,7 +18,7 @@ use Rattle.waits.specs.Deadlocked.Path.{edge, then}
 use Rattle.deadlock.specs.Ring.{Through, LeadsTo, OnRing}
 use Rattle.deadlock.specs.Sweeps.{freed, stuck, ahead_within}
 use Rattle.deadlock.proofs.Reduction.{freed_closed, deadlocked_iff, stuck_iff}
-use Rattle.deadlock.proofs.Paths.{through_both, through_nodes, within-iff}
+use Rattle.deadlock.proofs.Paths.{through_both, through_nodes, within_iff}
 
 -- the set of the nodes to which a path leads from i within the stuck ones
 abbrev pub led : Waits → ℕ → ℕ
@@ -38,7 +38,7 @@ module _ (w : Waits) (law : Lawful w) where
   -- Theorem: from a stuck node it has exactly the nodes to which a path leads through deadlocked nodes only.
   pub leads_iff : (i : ℕ) → In i (stuck w) → (j : ℕ) → In j (led w i) ↔ LeadsTo w i j
   leads_iff i m j =
-      let q = within-iff w (stuck w) stuck_nodes i m j in
+      let q = within_iff w (stuck w) stuck_nodes i m j in
       let h = ((stuck_iff w law i).0 m).0 in
       (λ a. let t = q.0 a in (t.0, (stuck_through h t.0).0 t.1), λ t. q.1 (t.0, (stuck_through h t.0).1 t.1))
 

@@ -17,7 +17,7 @@ use Rattle.deadlock.proofs.Cases.{entries_nodes}
 use Rattle.deadlock.proofs.Paths.{reachable_node}
 use Rattle.deadlock.proofs.Passing.{reachable_passes}
 use Rattle.deadlock.proofs.Judging.{judgement_passes, judged_as}
-use Rattle.deadlock.proofs.Refused.{list-fine, node_accepted, room_accepted}
+use Rattle.deadlock.proofs.Refused.{list_fine, node_accepted, room_accepted}
 
 -- Evidence isn't refused, for whatever node it is offered.
 pub evidence_accepted : (n : ℕ) (rows : List ℕ) (i : ℕ) → check_node_of n rows i ≡ Accepted → (l : List ℕ) → Evidence (waits_of n rows) i l
@@ -26,7 +26,7 @@ evidence_accepted n rows i ok l evidence j asked =
     let p = node_accepted n rows i ok in
     let law = accepted_lawful n rows p.0 in
     let known = (entries_nodes n l).1 (λ k m. reachable_node (waits_of n rows) law p.1 ((evidence.members k).0 m).2) in
-    list-fine n rows j l asked known (ascending_test l evidence.ascends)
+    list_fine n rows j l asked known (ascending_test l evidence.ascends)
 
 -- It passes for the claim that it was written for.
 pub evidence_passes : (n : ℕ) (rows : List ℕ) (i : ℕ) → check_node_of n rows i ≡ Accepted → Deadlocked (waits_of n rows) i

@@ -114,17 +114,17 @@ module _ (w : Waits) (s : ℕ) (nodes : Inside s (below w.nodes)) where
         within_full (within_closed j ((in_below w.nodes j).0 (inside_member s _ j nodes m)) at) p t.1
 
     module _ (here : In i s) where
-      within-sound : (j : ℕ) → In j (ahead_within w s i) → (p : Path w i j) × Through (λ k. In k s) p
+      within_sound : (j : ℕ) → In j (ahead_within w s i) → (p : Path w i j) × Through (λ k. In k s) p
       unfolding ahead_within
-      within-sound =
+      within_sound =
           sweeps_keep (reaching w s) (λ (g : ℕ). (j : ℕ) → In j g → (p : Path w i j) × Through (λ k. In k s) p) w.nodes
           (λ k g h f. reaching_members w s (λ j. (p : Path w i j) × Through (λ k. In k s) p) k g f
           (λ m j a o. let q = f k m in (path_onward w q.0 o, through_onward w (λ k. In k s) q.0 o q.1 a)))
           w.nodes (meet s (w.out i)) (λ j m. let b = (in_meet s (w.out i) j).0 m in (edge b.1, (here, b.0)))
 
       -- Theorem: the computed set has exactly the nodes to which a path leads from i through nodes of s only.
-      pub within-iff : (j : ℕ) → In j (ahead_within w s i) ↔ ((p : Path w i j) × Through (λ k. In k s) p)
-      within-iff j = (within-sound j, λ t. within_full within_begins t.0 t.1)
+      pub within_iff : (j : ℕ) → In j (ahead_within w s i) ↔ ((p : Path w i j) × Through (λ k. In k s) p)
+      within_iff j = (within_sound j, λ t. within_full within_begins t.0 t.1)
 
 -- ---- any path
 module _ (w : Waits) (law : Lawful w) (i : ℕ) (here : i < w.nodes) where
@@ -132,5 +132,5 @@ module _ (w : Waits) (law : Lawful w) (i : ℕ) (here : i < w.nodes) where
   pub ahead_iff : (j : ℕ) → In j (ahead w i) ↔ Path w i j
   unfolding ahead
   ahead_iff j =
-      let p = within-iff w (below w.nodes) (λ k. le_refl (bit (below w.nodes) k)) i ((in_below w.nodes i).1 here) j in
+      let p = within_iff w (below w.nodes) (λ k. le_refl (bit (below w.nodes) k)) i ((in_below w.nodes i).1 here) j in
       (λ m. (p.0 m).0, λ q. p.1 (q, through_nodes w law here q))

@@ -62,16 +62,16 @@ module _ (n : ℕ) (rows : List ℕ) (i : ℕ) (l : List ℕ) where
     list_strange h = entries_refused (refused_here (line 14 0 (strange_entry n l)) (entries_next n rows i l) ok h)
 
     module _ (known : strange_entry n l ≡ false) where
-      entries-fine : entries_of n rows i l ≡ Accepted
-      entries-fine = sym (not_refused (line 14 0 (strange_entry n l)) (entries_next n rows i l) ok known)
+      entries_fine : entries_of n rows i l ≡ Accepted
+      entries_fine = sym (not_refused (line 14 0 (strange_entry n l)) (entries_next n rows i l) ok known)
 
-      pub list-unordered : ascending l ≡ false → Refused (line 18 0 (not_ascending l)).gives ≡ check_list_of n rows i l
+      pub list_unordered : ascending l ≡ false → Refused (line 18 0 (not_ascending l)).gives ≡ check_list_of n rows i l
       unfolding not_ascending
-      list-unordered h = refused_here (line 18 0 (not_ascending l)) (list_next n rows i l) entries-fine (ap not h)
+      list_unordered h = refused_here (line 18 0 (not_ascending l)) (list_next n rows i l) entries_fine (ap not h)
 
-      pub list-fine : ascending l ≡ true → check_list_of n rows i l ≡ Accepted
+      pub list_fine : ascending l ≡ true → check_list_of n rows i l ≡ Accepted
       unfolding not_ascending
-      list-fine h = sym (not_refused (line 18 0 (not_ascending l)) (list_next n rows i l) entries-fine (ap not h))
+      list_fine h = sym (not_refused (line 18 0 (not_ascending l)) (list_next n rows i l) entries_fine (ap not h))
 
 -- ---- and back: what isn't refused
 pub node_accepted : (n : ℕ) (rows : List ℕ) (i : ℕ) → check_node_of n rows i ≡ Accepted → (check_of n rows ≡ Accepted) × (i < n)

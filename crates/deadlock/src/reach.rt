@@ -3,7 +3,7 @@ ghost use Rattle.std.specs.Prelude.{◌≡◌, ◌<◌};
 ghost use Rattle.nodes.specs.Words.{num};
 ghost use Rattle.waits.specs.Rows.{waits_of, Shaped};
 ghost use Rattle.deadlock.specs.Sweeps.{reaching, ahead_within};
-ghost use Rattle.deadlock.specs.Sweeps.{sweep as sweep_of, ahead as ahead_of_lem};
+ghost use Rattle.deadlock.specs.Sweeps.{sweep as sweep_of, ahead as ahead_of};
 
 use nodes::{Node, Set};
 use waits::{out_of, row_at};
@@ -48,7 +48,7 @@ pub fn ahead_within(nodes: usize, rows: &[u64], within: Set, i: Node) -> Set
 // The nodes to which any path of one or more edges leads from i.
 pub fn ahead(nodes: usize, rows: &[u64], i: Node) -> Set
     requires { Shaped nodes rows.now × (i.0 < nodes) }
-    ensures { num result ≡ ahead_of_lem (waits_of nodes rows.now) i.0 }
+    ensures { num result ≡ ahead_of (waits_of nodes rows.now) i.0 }
 {
     ahead_within(nodes, rows, Set::below(nodes), i)
 }

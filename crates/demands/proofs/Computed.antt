@@ -22,7 +22,7 @@ use Rattle.waits.proofs.Lawful.{accepted_lawful}
 use Rattle.deadlock.specs.Evidence.{Evidence}
 use Rattle.deadlock.specs.Sweeps.{freed, stuck, ahead, knot}
 use Rattle.deadlock.proofs.Reduction.{freed_iff, stuck_iff}
-use Rattle.deadlock.proofs.Answers.{reached, knot-evidence}
+use Rattle.deadlock.proofs.Answers.{reached, knot_evidence}
 use Rattle.step.specs.declared.answers.Verdict.{Verdict}
 use Rattle.rounds.specs.Course.{after, Course, ended}
 use Rattle.rounds.specs.Verdicts.{verdicts}
@@ -83,7 +83,7 @@ module _ (n : ℕ) (rows : List ℕ) (ok : check_of n rows ≡ Accepted) where
   module _ (s : ℕ) (node : s < n) where
     -- Law: the knot, listed, is the evidence.
     pub evidence : {l : List ℕ} → members (knot w s) ≡ l → Evidence w s l
-    evidence e = subst (Evidence w s) e (knot-evidence w lawful s node)
+    evidence e = subst (Evidence w s) e (knot_evidence w lawful s node)
 
     -- Law: two messages for each edge that leaves a node reached or enters one freed, and the verdict says whether s is freed.
     pub full_round : {count : ℕ} {v : Verdict} → inside (gather (λ i. w.holds i 0) n) (with (ahead w s) s) ≡ true

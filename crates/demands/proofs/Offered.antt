@@ -24,11 +24,11 @@ use Rattle.deadlock.specs.Refusals.{check_node_of, check_list_of}
 use Rattle.deadlock.specs.Evidence.{judgement, judged_of}
 use Rattle.deadlock.specs.Sweeps.{knot}
 use Rattle.deadlock.proofs.Cases.{entries_nodes}
-use Rattle.deadlock.proofs.Refused.{node_accepted, list_accepted, list-fine}
+use Rattle.deadlock.proofs.Refused.{node_accepted, list_accepted, list_fine}
 use Rattle.deadlock.proofs.Passing.{passes_deadlocked}
 use Rattle.deadlock.proofs.Judging.{judgement_passes, judgement_member, judged_as, judged_said}
 use Rattle.deadlock.proofs.Offered.{evidence_passes}
-use Rattle.deadlock.proofs.Answers.{asked-evidence}
+use Rattle.deadlock.proofs.Answers.{asked_evidence}
 
 module _ (n : ℕ) (rows : List ℕ) (i : ℕ) where
   -- ---- a list that isn't refused
@@ -43,7 +43,7 @@ module _ (n : ℕ) (rows : List ℕ) (i : ℕ) where
       → (check_list_of n rows i l ≡ Accepted) ↔ (((j : ℕ) → Memᴰ j l → j < n) × (members (set_of l) ≡ l))
   set_listed asked l = (
     λ ok. ((entries_nodes n l).0 (list_accepted n rows i l ok).1, members_list l (tidy l ok)),
-    λ p. list-fine n rows i l asked ((entries_nodes n l).1 p.0) (ascending_test l (subst Ascending p.1 (members_ascending (set_of l)))),
+    λ p. list_fine n rows i l asked ((entries_nodes n l).1 p.0) (ascending_test l (subst Ascending p.1 (members_ascending (set_of l)))),
   )
 
   pub list_same : (l m : List ℕ) → check_list_of n rows i l ≡ Accepted → check_list_of n rows i m ≡ Accepted → ((j : ℕ) → Memᴰ j l ↔ Memᴰ j m) → l ≡ m
@@ -68,7 +68,7 @@ module _ (n : ℕ) (rows : List ℕ) (i : ℕ) where
   module _ (ok : check_node_of n rows i ≡ Accepted) where
     pub some_list : Deadlocked (waits_of n rows) i ↔ ((l : List ℕ) × (judged_of n rows i l ≡ Passes))
     some_list = (
-      λ d. (members (knot (waits_of n rows) i), evidence_passes n rows i ok d _ (asked-evidence n rows i ok (knot (waits_of n rows) i) refl)),
+      λ d. (members (knot (waits_of n rows) i), evidence_passes n rows i ok d _ (asked_evidence n rows i ok (knot (waits_of n rows) i) refl)),
       λ p.
           let said = ((judged_said n rows i p.0 Passes (λ r q. true≢false (cc q))).0 p.1).1 in
           passes_deadlocked (waits_of n rows) (accepted_lawful n rows (node_accepted n rows i ok).0) i p.0 ((judgement_passes (waits_of n rows) i p.0).0 said),

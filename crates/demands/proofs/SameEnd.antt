@@ -76,17 +76,17 @@ module _ (n : ℕ) (rows : List ℕ) (ok : check_of n rows ≡ Accepted) (s : �
         | inr o ↦ one.no_other o.0 (round a) o.1
       ]
 
-      of-round : (m : Letter) → Memᴰ m (since w (heard (past n rows a))).sent → m.round ≡ p
-      of-round m i =
+      of_round_lem : (m : Letter) → Memᴰ m (since w (heard (past n rows a))).sent → m.round ≡ p
+      of_round_lem m i =
           let o = (rules n rows a.messages a.steps ok).sent_opened m i in
           one.no_other o.0 m.round (heard_opened n rows a.messages a.steps o.0 m.round o.1)
 
-      all-sent : (now n rows a).sent ≡ length (messages_of (round a) (now n rows a))
-      all-sent =
+      all_sent : (now n rows a).sent ≡ length (messages_of (round a) (now n rows a))
+      all_sent =
           let st = stands n rows a.messages a.steps ok in
           let letters = (since w (heard (past n rows a))).sent in
           sent_count st
-          ∙ ap length (sym (those_all (λ m. eqb m.round (round a)) letters (λ m i. eq-eqb m.round (round a) (of-round m i ∙ sym newest))))
+          ∙ ap length (sym (those_all (λ m. eqb m.round (round a)) letters (λ m i. eq-eqb m.round (round a) (of_round_lem m i ∙ sym newest))))
           ∙ sym (round_count st (round a))
 
       whole : End a
@@ -116,7 +116,7 @@ module _ (n : ℕ) (rows : List ℕ) (ok : check_of n rows ≡ Accepted) (s : �
       verdict = (x.verdict, said_in a p one, said_in b q two ∙ ap (λ (v : Verdict). v ∷ []) (one_right w s _ _ y.right x.right));
       called = called;
       free = free;
-      sent = all-sent a p one ∙ x.count ∙ (λ k. 2 * leaving w (called k) + 2 * entering w (free k)) ∙ sym y.count ∙ sym (all-sent b q two);
+      sent = all_sent a p one ∙ x.count ∙ (λ k. 2 * leaving w (called k) + 2 * entering w (free k)) ∙ sym y.count ∙ sym (all_sent b q two);
     }
 
 -- Theorem: the same end, whatever the order.

@@ -16,9 +16,9 @@ use Rattle.waits.specs.Mornings.{first_rows, second_rows, fourth_rows, fifth_row
 use Rattle.deadlock.specs.declared.evidence.Judged.TheVariants.{ClaimMissing}
 use Rattle.deadlock.specs.Refusals.{strange_entry, check_node_of}
 use Rattle.deadlock.specs.Evidence.{judged_of}
-use Rattle.deadlock.proofs.Refused.{list-fine}
+use Rattle.deadlock.proofs.Refused.{list_fine}
 use Rattle.deadlock.proofs.Judging.{judgement_missing, judged_as}
-use Rattle.deadlock.proofs.Answers.{not-in-ring, in_ring, behind-ring}
+use Rattle.deadlock.proofs.Answers.{not_in_ring, in_ring, behind_ring}
 use Rattle.bench.proofs.Open.{open_bench}
 use Rattle.rounds.proofs.Open.{open_rounds}
 use Rattle.demands.specs.Table.{Table}
@@ -32,7 +32,7 @@ nobody_passes w i = ap (λ (b : Bool). b && not (any_of (λ j. w.holds j (outsid
 claim_lacking : (n : ℕ) (rows : List ℕ) (i : ℕ) → check_node_of n rows i ≡ Accepted → judged_of n rows i [] ≡ ClaimMissing
 unfolding strange_entry
 claim_lacking n rows i ok =
-    sym (judged_as n rows i [] (list-fine n rows i [] ok refl refl)) ∙ (judgement_missing (waits_of n rows) i []).1 (λ m. elim m [ ])
+    sym (judged_as n rows i [] (list_fine n rows i [] ok refl refl)) ∙ (judgement_missing (waits_of n rows) i []).1 (λ m. elim m [ ])
 
 -- Theorem: all that the paper says of these mornings is so.
 pub table : Table
@@ -68,9 +68,9 @@ table = record {
   tenth = morning 5 tenth_rows refl refl refl;
   tenth_evidence = evidence 5 tenth_rows refl 0 (lit< tt) refl;
   tenth_cycle = then {j = 3} refl (edge refl);
-  tenth_behind = behind-ring 5 tenth_rows 0 refl refl refl;
+  tenth_behind = behind_ring 5 tenth_rows 0 refl refl refl;
   tenth_in = (in_ring 5 tenth_rows 1 refl refl refl, in_ring 5 tenth_rows 2 refl refl refl);
-  tenth_free = (not-in-ring 5 tenth_rows 3 refl refl, not-in-ring 5 tenth_rows 4 refl refl);
+  tenth_free = (not_in_ring 5 tenth_rows 3 refl refl, not_in_ring 5 tenth_rows 4 refl refl);
   twelfth = nobody_passes;
   twelfth_lacks = claim_lacking;
 }

@@ -149,9 +149,9 @@ set_agrees (b ∷ l) = (
   λ r.
       let q = these (members_of (b ∷ l)) r.0 r.1 in
       let up = not-false (ascending q.0) (or_left_false (not (ascending q.0)) (any_of (leb places) q.0) q.2) in
-      members_fine 0 (pieces space (b ∷ l)) q.0 q.1 (lowest-0 q.0) up (or_right_false (not (ascending q.0)) (any_of (leb places) q.0) q.2),
+      members_fine 0 (pieces space (b ∷ l)) q.0 q.1 (lowest_0 q.0) up (or_right_false (not (ascending q.0)) (any_of (leb places) q.0) q.2),
 )
   where
-    lowest-0 : (ms : List ℕ) → NoLower 0 ms
-    lowest-0 [] = tt
-    lowest-0 (m ∷ ms) = omega arith
+    lowest_0 : (ms : List ℕ) → NoLower 0 ms
+    lowest_0 [] = tt
+    lowest_0 (m ∷ ms) = omega arith

@@ -70,9 +70,9 @@ module _ (w : List ℕ) where
       number_past e =
           at_false _ (ne_eqb (length w) 0 some_byte) (at_false _ digits (at_true _ (large_value w some_byte digits e) refl))
 
-      pub number-fine : {v : ℕ} → Number v ≡ numbered (number_of w) → Fine ≡ number_flaw w
+      pub number_fine : {v : ℕ} → Number v ≡ numbered (number_of w) → Fine ≡ number_flaw w
       unfolding number_flaw
-      number-fine e =
+      number_fine e =
           at_false _ (ne_eqb (length w) 0 some_byte) (at_false _ digits (at_false _ (small_value w some_byte digits e).0 refl))
 
 -- ---- a member
@@ -91,8 +91,8 @@ module _ (lowest : ℕ) (w : List ℕ) where
       unfolding member_in
       no_place e = at_false _ (ne_eqb (length w) 0 some_byte) (at_false _ digits (at_true _ e refl))
 
-      pub member-past : NoNumber ≡ numbered (number_of w) → IsNot NoPlace ≡ member_in lowest w
-      member-past e =
+      pub member_past : NoNumber ≡ numbered (number_of w) → IsNot NoPlace ≡ member_in lowest w
+      member_past e =
           no_place (le-leb places (value_from 0 w) (omega (arith, leb-true (2 ^ 64) (value_from 0 w) (large_value w some_byte digits e))))
 
       module _ {m : ℕ} (e : Number m ≡ numbered (number_of w)) where
@@ -103,31 +103,31 @@ module _ (lowest : ℕ) (w : List ℕ) where
         member_high h = no_place (le-leb places (value_from 0 w) (omega (arith, value)))
 
         module _ (placed : m < places) where
-          has-place : leb places (value_from 0 w) ≡ false
-          has-place = lt-leb places (value_from 0 w) (omega (arith, value))
+          has_place : leb places (value_from 0 w) ≡ false
+          has_place = lt-leb places (value_from 0 w) (omega (arith, value))
 
-          pub member-twice : m + 1 ≡ lowest → IsNot Twice ≡ member_in lowest w
+          pub member_twice : m + 1 ≡ lowest → IsNot Twice ≡ member_in lowest w
           unfolding member_in
-          member-twice h =
+          member_twice h =
               at_false _ (ne_eqb (length w) 0 some_byte)
-              (at_false _ digits (at_false _ has-place (at_true _ (eq-eqb (value_from 0 w + 1) lowest (omega (arith, value))) refl)))
+              (at_false _ digits (at_false _ has_place (at_true _ (eq-eqb (value_from 0 w + 1) lowest (omega (arith, value))) refl)))
 
           module _ (other : m + 1 ≡ lowest → ⊥) where
-            not-twice : eqb (value_from 0 w + 1) lowest ≡ false
-            not-twice = ne_eqb (value_from 0 w + 1) lowest (λ q. other (ap (λ (x : ℕ). x + 1) (sym value) ∙ q))
+            not_twice : eqb (value_from 0 w + 1) lowest ≡ false
+            not_twice = ne_eqb (value_from 0 w + 1) lowest (λ q. other (ap (λ (x : ℕ). x + 1) (sym value) ∙ q))
 
-            pub member-descends : m < lowest → IsNot Descends ≡ member_in lowest w
+            pub member_descends : m < lowest → IsNot Descends ≡ member_in lowest w
             unfolding member_in
-            member-descends h =
+            member_descends h =
                 at_false _ (ne_eqb (length w) 0 some_byte)
-                (at_false _ digits (at_false _ has-place (at_false _ not-twice (at_true _ (lt-ltb (value_from 0 w) lowest (omega (arith, value))) refl))))
+                (at_false _ digits (at_false _ has_place (at_false _ not_twice (at_true _ (lt-ltb (value_from 0 w) lowest (omega (arith, value))) refl))))
 
             pub member_is : lowest ≤ m → Is m ≡ member_in lowest w
             unfolding member_in
             member_is h =
                 at_false _ (ne_eqb (length w) 0 some_byte)
                 (at_false _ digits
-                (at_false _ has-place (at_false _ not-twice (at_false _ (le-ltb (value_from 0 w) lowest (omega (arith, value))) (ap Is (sym value))))))
+                (at_false _ has_place (at_false _ not_twice (at_false _ (le-ltb (value_from 0 w) lowest (omega (arith, value))) (ap Is (sym value))))))
 
 -- ---- and back: a member that is one
 pub record Member (lowest : ℕ) (w : List ℕ) (m : ℕ) : Type 0 where

@@ -100,11 +100,11 @@ module _ (line : List ℕ) (at column : ℕ) (s : FieldsLeft line at column) whe
           ∙ ap (fields_fault column) (sym (pieces_next comma line at end inside found))
           ∙ s
 
-      pub fields-wrong : {f : Flaw} → j ≡ Wrong f → Column column f ≡ fields_fault 0 (pieces comma line)
-      fields-wrong e = rw e at later
+      pub fields_wrong : {f : Flaw} → j ≡ Wrong f → Column column f ≡ fields_fault 0 (pieces comma line)
+      fields_wrong e = rw e at later
 
-      pub fields-next : j ≡ Fine → FieldsLeft line (end + 1) (column + 1)
-      fields-next e = ap (λ (c : ℕ). fields_fault c (pieces_from comma line (end + 1))) (add-one column) ∙ rw e at later
+      pub fields_next : j ≡ Fine → FieldsLeft line (end + 1) (column + 1)
+      fields_next e = ap (λ (c : ℕ). fields_fault c (pieces_from comma line (end + 1))) (add-one column) ∙ rw e at later
 
   module _ (behind : length line < at) where
     ended : fields_fault column [] ≡ fields_fault 0 (pieces comma line)

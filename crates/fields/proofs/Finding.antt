@@ -93,11 +93,11 @@ module _ (b : ℕ) (l : List ℕ) where
   pub pieces_next : (from end : ℕ) → from ≤ length l → end ≡ from + up_to b (drop from l)
       → pieces_from b l from ≡ take (end - from) (drop from l) ∷ pieces_from b l (end + 1)
   pieces_next from end h e =
-      from-here ∙ first_piece b (drop from l)
+      from_here ∙ first_piece b (drop from l)
       ∙ ap₂ (λ (n : ℕ) (ps : List (List ℕ)). take n (drop from l) ∷ ps) (let q : up_to b (drop from l) ≡ end - from = omega arith in q) later
     where
-      from-here : pieces_from b l from ≡ pieces b (drop from l)
-      from-here = pieces_here b l from h
+      from_here : pieces_from b l from ≡ pieces b (drop from l)
+      from_here = pieces_here b l from h
 
       later : later_pieces b (drop from l) ≡ pieces_from b l (end + 1)
       later =
@@ -149,16 +149,16 @@ first_line x (y ∷ l) = go (line_end x y) (first_line y l)
 pub lines_next : (s : List ℕ) (at end : ℕ) → at < length s → end ≡ at + up_to_end (drop at s)
     → lines_of (drop at s) ≡ take (end - at) (drop at s) ∷ lines_of (drop (end + 2) s)
 lines_next s at end h e =
-    some-line (drop at s) (omega (arith, length-drop at s))
+    some_line (drop at s) (omega (arith, length-drop at s))
     ∙ ap₂ (λ (n : ℕ) (ls : List (List ℕ)). take n (drop at s) ∷ ls)
     (let q : up_to_end (drop at s) ≡ end - at = omega arith in q)
     (ap lines_of
     (drop-drop (suc (suc (up_to_end (drop at s)))) at s
     ∙ ap (λ (n : ℕ). drop n s) (let q : at + suc (suc (up_to_end (drop at s))) ≡ end + 2 = omega arith in q)))
   where
-    some-line : (l : List ℕ) → 0 < length l → lines_of l ≡ take (up_to_end l) l ∷ lines_of (drop (suc (suc (up_to_end l))) l)
-    some-line [] h = absurd (omega arith)
-    some-line (x ∷ l) h = first_line x l
+    some_line : (l : List ℕ) → 0 < length l → lines_of l ≡ take (up_to_end l) l ∷ lines_of (drop (suc (suc (up_to_end l))) l)
+    some_line [] h = absurd (omega arith)
+    some_line (x ∷ l) h = first_line x l
 
 pub lines_none : (s : List ℕ) (at : ℕ) → length s ≤ at → lines_of (drop at s) ≡ []
 unfolding lines_of

@@ -201,11 +201,11 @@ module _ (w : List ℕ) (s : Set) (lowest at : ℕ) (g : Gathering w s lowest at
       right : Right lowest m (number_of (take (end - at) (drop at w)))
       right = right_member lowest m (number_of (take (end - at) (drop at w))) e
 
-      pub gathering-place : m < places
-      gathering-place = right.placed
+      pub gathering_place : m < places
+      gathering_place = right.placed
 
-      pub gathering-next : {t : Set} → num t ≡ with (num s) m → end ≤ length w → Gathering w t (m + 1) (end + 1)
-      gathering-next f h = record {
+      pub gathering_next : {t : Set} → num t ≡ with (num s) m → end ≤ length w → Gathering w t (m + 1) (end + 1)
+      gathering_next f h = record {
         done = g.done ++ m ∷ [];
         left =
             split ∙ ap (λ (o : Option ℕ). prepend g.done (in_front o (numbers_left w (end + 1)))) right.is

@@ -37,11 +37,11 @@ module _ (b : ℕ) where
   behind_pieces : (l : List ℕ) → behind b (pieces b l) ≡ b ∷ joined b (pieces b l)
   unfolding pieces behind joined
   behind_pieces [] = refl
-  behind_pieces (x ∷ l) = both_branches (λ (ps : List (List ℕ)). behind b ps ≡ b ∷ joined b ps) (eqb x b) refl (with-onto (pieces b l))
+  behind_pieces (x ∷ l) = both_branches (λ (ps : List (List ℕ)). behind b ps ≡ b ∷ joined b ps) (eqb x b) refl (with_onto (pieces b l))
     where
-      with-onto : (ps : List (List ℕ)) → behind b (onto x ps) ≡ b ∷ joined b (onto x ps)
-      with-onto [] = refl
-      with-onto (p ∷ ps) = refl
+      with_onto : (ps : List (List ℕ)) → behind b (onto x ps) ≡ b ∷ joined b (onto x ps)
+      with_onto [] = refl
+      with_onto (p ∷ ps) = refl
 
   -- Law: the pieces of a text, put together, are the text.
   pub joined_pieces : (l : List ℕ) → joined b (pieces b l) ≡ l

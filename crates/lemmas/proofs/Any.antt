@@ -86,8 +86,8 @@ all_below p zero h = refl
 all_below p (suc n) h = ap₂ ◌||◌ (all_below p n (λ i l. h i (omega arith))) (h n (omega arith))
 
 pub some_below : (p : ℕ → Bool) (n i : ℕ) → i < n → p i ≡ true → true ≡ any_below p n
-some_below p n i h e = sym (not-false-true (any_below p n) (λ f. not_both e (none_below p n i h f)))
+some_below p n i h e = sym (not_false_true (any_below p n) (λ f. not_both e (none_below p n i h f)))
   where
-    not-false-true : (b : Bool) → (b ≡ false → ⊥) → b ≡ true
-    not-false-true true f = refl
-    not-false-true false f = absurd (f refl)
+    not_false_true : (b : Bool) → (b ≡ false → ⊥) → b ≡ true
+    not_false_true true f = refl
+    not_false_true false f = absurd (f refl)

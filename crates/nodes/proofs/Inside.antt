@@ -45,10 +45,10 @@ pub with_inside : (s k t : ℕ) → Inside s t → In k t → Inside (with s k) 
 with_inside s k t i m = inside_in (with s k) t (λ j q. ⊎_elim (λ (e : In j s). inside_member s t j i e) (λ (e : j ≡ k). rw e m) ((in_with s k j).0 q))
 
 pub single_below : (n k : ℕ) → k < n → Inside (single k) (below n)
-single_below n k h = inside_in (single k) (below n) (λ j i. (in_below n j).1 (rw (single-only k j i) h))
+single_below n k h = inside_in (single k) (below n) (λ j i. (in_below n j).1 (rw (single_only k j i) h))
   where
-    single-only : (k j : ℕ) → In j (single k) → j ≡ k
-    single-only k j i = elim (ℕ_discrete j k) [ yes e ↦ e | no d ↦ absurd (let z = bit_single_other k j d in omega arith) ]
+    single_only : (k j : ℕ) → In j (single k) → j ≡ k
+    single_only k j i = elim (ℕ_discrete j k) [ yes e ↦ e | no d ↦ absurd (let z = bit_single_other k j d in omega arith) ]
 
 pub union_left : (a b : ℕ) → Inside a (union a b)
 union_left a b k = omega (arith, bit_union a b k)

@@ -109,11 +109,11 @@ bit_with_other s k j ne = omega (arith, bit_with s k j, bit_single_other k j ne)
 pub in_with : (s k j : ℕ) → In j (with s k) ↔ (In j s ⊎ (j ≡ k))
 in_with s k j = (
   λ i. elim (ℕ_discrete j k) [ yes e ↦ inr e | no e ↦ inl (sym (bit_with_other s k j e) ∙ i) ],
-  λ t. ⊎_elim (λ (i : In j s). inside-with i) (λ (e : j ≡ k). rw e (bit_with_same s k)) t,
+  λ t. ⊎_elim (λ (i : In j s). inside_with i) (λ (e : j ≡ k). rw e (bit_with_same s k)) t,
 )
   where
-    inside-with : In j s → In j (with s k)
-    inside-with i = rw (with_union s k) ((in_union s (single k) j).1 (inl i))
+    inside_with : In j s → In j (with s k)
+    inside_with i = rw (with_union s k) ((in_union s (single k) j).1 (inl i))
 
 pub with_empty : (k : ℕ) → with 0 k ≡ single k
 with_empty k = same (with 0 k) (single k) (λ j. omega (arith, bit_with 0 k j, bit_empty j))

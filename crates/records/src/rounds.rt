@@ -1,7 +1,7 @@
 // Rounds: which there are, and the one place where two of them are compared.
 ghost use Rattle.std.specs.Prelude.{◌≡◌};
 ghost use Rattle.records.specs.Rounds.{compare_of, no_round, cannot_open};
-ghost use Rattle.records.specs.Rounds.{behind as behind_of, ahead as ahead_of_lem};
+ghost use Rattle.records.specs.Rounds.{behind as behind_of, ahead as ahead_of};
 
 use nodes::Round;
 
@@ -40,7 +40,7 @@ pub fn behind(round: Round, own: Round) -> bool
 }
 
 pub fn ahead(round: Round, own: Round) -> bool
-    ensures { result ≡ ahead_of_lem round.0 own.0 }
+    ensures { result ≡ ahead_of round.0 own.0 }
 {
     let compared = compare(round, own);
     match compared {

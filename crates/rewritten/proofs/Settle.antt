@@ -59,11 +59,11 @@ module _ (n : ℕ) (rows found : List ℕ) (ok : check_of n rows ≡ Accepted) (
       all : end ≡ length (file_of n rows)
       all = cc (e, is_written)
 
-      pub written-front : take end left ≡ file_of n rows
-      written-front = ap₂ take all stands ∙ take_at (file_of n rows) (drop (length (file_of n rows)) found) (length (file_of n rows)) refl
+      pub written_front : take end left ≡ file_of n rows
+      written_front = ap₂ take all stands ∙ take_at (file_of n rows) (drop (length (file_of n rows)) found) (length (file_of n rows)) refl
 
-      pub written-inside : end ≤ length left
-      written-inside = omega (arith, all, ap length stands, length-append (file_of n rows) (drop (length (file_of n rows)) found))
+      pub written_inside : end ≤ length left
+      written_inside = omega (arith, all, ap length stands, length-append (file_of n rows) (drop (length (file_of n rows)) found))
 
 -- ---- Theorem: what is refused gets the line that `claims` answers it with.
 abbrev pub NoGraph : Input → Type 0

@@ -77,7 +77,7 @@ module _ {w : Waits} {l : List Event} (told : Told w l) (i round : ℕ) (node : 
   pub opening_told : Told w (opening ∷ l)
   unfolding since
   opening_told = record {
-    low = put_all (λ k x. x.round ≤ round) (since w l).records i (open_round (seen_in w i) round).state opened-low (λ k d. omega (arith, told.low k, above));
+    low = put_all (λ k x. x.round ≤ round) (since w l).records i (open_round (seen_in w i) round).state opened_low (λ k d. omega (arith, told.low k, above));
     events_low = events_low;
     sent_opened = λ m h. ⊎_elim
         (λ (g : Memᴰ m (since w l).sent). let o = told.sent_opened m g in (o.0, there o.1))
@@ -91,8 +91,8 @@ module _ {w : Waits} {l : List Event} (told : Told w l) (i round : ℕ) (node : 
         (opened_now o);
   }
     where
-      opened-low : (open_round (seen_in w i) round).state.round ≤ round
-      opened-low = elim begins.state [
+      opened_low : (open_round (seen_in w i) round).state.round ≤ round
+      opened_low = elim begins.state [
         | inl q ↦ (let h = ap (λ (x : State). x.round) q in omega (arith, told.low i, above))
         | inr p ↦ (let h = p.0 in omega arith)
       ]
@@ -123,12 +123,12 @@ module _ {w : Waits} (lawful : Lawful w) {l : List Event} (told : Told w l) (m :
         delivered = c.delivered;
         runs = subst (λ (x : List Verdict). Runs w (since w (arrival ∷ l)) x s r c.delivered) (sym (said_else w r arrival l d))
             (other_runs c.runs m.round m.to (reply w (since w l) m) does d);
-        heard = λ x at top h. c.heard x at top (not-it x (λ q. d (ap (λ (y : Letter). y.round) (sym q) ∙ at)) h);
+        heard = λ x at top h. c.heard x at top (not_it x (λ q. d (ap (λ (y : Letter). y.round) (sym q) ∙ at)) h);
       }
     where
-      not-it : (x : Letter) → (x ≡ m → ⊥) → Memᴰ (Event.arrives x) (arrival ∷ l) → Memᴰ (Event.arrives x) l
-      not-it x n (here q) = absurd (n (same_message q))
-      not-it x n (there h) = h
+      not_it : (x : Letter) → (x ≡ m → ⊥) → Memᴰ (Event.arrives x) (arrival ∷ l) → Memᴰ (Event.arrives x) l
+      not_it x n (here q) = absurd (n (same_message q))
+      not_it x n (there h) = h
 
   its_course : (s r : ℕ) → Opened l s r → m.round ≡ r → AsCourse w (arrival ∷ l) s r
   unfolding since
@@ -138,20 +138,20 @@ module _ {w : Waits} (lawful : Lawful w) {l : List Event} (told : Told w l) (m :
       record {
         delivered = h.0;
         runs = subst (λ (x : List Verdict). Runs w (since w (arrival ∷ l)) x s r h.0) (sym (said_own w r arrival l q)) h.1;
-        heard = λ x at top a. all-heard h.0 h.2 h.3 (c.heard x at top) top a;
+        heard = λ x at top a. all_heard h.0 h.2 h.3 (c.heard x at top) top a;
       }
     where
-      all-heard : (k : List Letter) {x : Letter} {d : List Letter} → ((y : Letter) → Memᴰ y d → Memᴰ y k)
+      all_heard : (k : List Letter) {x : Letter} {d : List Letter} → ((y : Letter) → Memᴰ y d → Memᴰ y k)
           → (((since w l).records m.to).round ≤ r → Memᴰ m k) → (Memᴰ (Event.arrives x) l → Memᴰ x d) → r ≡ highest_in l
           → Memᴰ (Event.arrives x) (arrival ∷ l) → Memᴰ x k
-      all-heard k {x} keeps this older top (here e) =
+      all_heard k {x} keeps this older top (here e) =
           subst (λ (y : Letter). Memᴰ y k) (sym (same_message e)) (this (omega (arith, told.low m.to, top)))
-      all-heard k {x} keeps this older top (there h) = keeps x (older h)
+      all_heard k {x} keeps this older top (there h) = keeps x (older h)
 
   pub arrival_told : Told w (arrival ∷ l)
   unfolding since
   arrival_told = record {
-    low = put_all (λ k x. x.round ≤ highest_in l) (since w l).records m.to (reply w (since w l) m).state there-low (λ k d. told.low k);
+    low = put_all (λ k x. x.round ≤ highest_in l) (since w l).records m.to (reply w (since w l) m).state there_low (λ k d. told.low k);
     events_low = events_low;
     sent_opened = λ x h. ⊎_elim
         (λ (g : Memᴰ x (since w l).sent). let o = told.sent_opened x g in (o.0, there o.1))
@@ -162,8 +162,8 @@ module _ {w : Waits} (lawful : Lawful w) {l : List Event} (told : Told w l) (m :
     courses = λ s r o. elim (ℕ_discrete m.round r) [ yes q ↦ its_course s r (opened_before o) q | no d ↦ other_course s r (opened_before o) d ];
   }
     where
-      there-low : (reply w (since w l) m).state.round ≤ highest_in l
-      there-low = elim does.state [
+      there_low : (reply w (since w l) m).state.round ≤ highest_in l
+      there_low = elim does.state [
         | inl q ↦ (let h = ap (λ (x : State). x.round) q in omega (arith, told.low m.to))
         | inr p ↦ (let h = p.0 in omega (arith, round_low))
       ]

@@ -65,11 +65,11 @@ other_runs {w} {c} {said} {s} {round} {k} runs other i out effect d = record {
   course = runs.course;
   sent = others_join round c.sent (sent_by i out) other d effect.letters ∙ runs.sent;
   said_so = runs.said_so;
-  kept = put_all (λ j x. x.round ≤ round → in_round round x ≡ (after w s round k).records j) c.records i out.state there-kept (λ j n. runs.kept j);
+  kept = put_all (λ j x. x.round ≤ round → in_round round x ≡ (after w s round k).records j) c.records i out.state there_kept (λ j n. runs.kept j);
 }
   where
-    there-kept : out.state.round ≤ round → in_round round out.state ≡ (after w s round k).records i
-    there-kept h = elim effect.state [
+    there_kept : out.state.round ≤ round → in_round round out.state ≡ (after w s round k).records i
+    there_kept h = elim effect.state [
       | inl q ↦ ap (in_round round) q ∙ runs.kept i (subst (λ (x : State). x.round ≤ round) q h)
       | inr p ↦
           let q : out.state.round ≡ other = p.0 in

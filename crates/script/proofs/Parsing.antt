@@ -65,8 +65,8 @@ module _ (bytes : List ℕ) where
       was_read : numbers' ≡ sets numbers 0 (numbers_read bytes)
       was_read = r ∙ ap (sets numbers 0) (sym (some_read short))
 
-      pub parse-bad : most_numbers ≤ length numbers → Bad ≡ count_of (length numbers) (numbers_of bytes) → ParseSays bytes numbers steps numbers' steps Parsed-as-NoScript
-      parse-bad roomy e =
+      pub parse_bad : most_numbers ≤ length numbers → Bad ≡ count_of (length numbers) (numbers_of bytes) → ParseSays bytes numbers steps numbers' steps Parsed-as-NoScript
+      parse_bad roomy e =
           none
           (⊎_elim
           (λ (g : (numbers_of bytes).good ≡ false). meant_none (and_later (leb (length bytes) longest) g))
@@ -80,8 +80,8 @@ module _ (bytes : List ℕ) where
             ap script_of (read_front bytes numbers numbers' r e)
             ∙ sym (meant_script (and_intro (leb (length bytes) longest) (numbers_of bytes).good short (read_good bytes numbers numbers' r e)))
 
-        pub parse-all : {steps' : List ℕ} {a : Parsed} → CodeSays (take count numbers') steps steps' a → ParseSays bytes numbers steps numbers' steps' a
-        parse-all p = record {
+        pub parse_all : {steps' : List ℕ} {a : Parsed} → CodeSays (take count numbers') steps steps' a → ParseSays bytes numbers steps numbers' steps' a
+        parse_all p = record {
           answer = p.answer ∙ ap shape_of meant;
           read = was_read;
           coded = p.coded ∙ ap (λ (m : Meant). sets steps 0 (steps_in m)) meant;

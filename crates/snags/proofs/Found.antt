@@ -70,8 +70,8 @@ module _ (l : List ℕ) where
               pub uneven : (length l ≡ wanted l → ⊥) → Uneven (length l) (wanted l) ≡ numbers_snag l
               uneven n = behind (at_false _ (le-ltb most (step_count l) f) (at_true _ (ap not (ne_eqb (length l) (wanted l) n)) refl))
 
-              pub steps-left : length l ≡ wanted l → {r : Snag} → r ≡ step_snag 0 (tail l (front l)) → r ≡ numbers_snag l
-              steps-left g q =
+              pub steps_left : length l ≡ wanted l → {r : Snag} → r ≡ step_snag 0 (tail l (front l)) → r ≡ numbers_snag l
+              steps_left g q =
                   behind (at_false _ (le-ltb most (step_count l) f) (at_false _ (ap not (eq-eqb (length l) (wanted l) g)) (q ∙ ap (step_snag 0) (tail_drop l (front l)))))
 
 -- ---- the bytes
@@ -87,8 +87,8 @@ module _ (bytes : List ℕ) where
 
     module _ {s : Stop} (e : s ≡ stop_of bytes) (f : s ≡ End) (found left : List ℕ) {r : Count} (says : ReadSays bytes found left r) where
       -- more numbers than places
-      pub read-crowd : length found ≡ most_numbers → r ≡ Bad → Crowd ≡ snag_of bytes
-      read-crowd roomy b =
+      pub read_crowd : length found ≡ most_numbers → r ≡ Bad → Crowd ≡ snag_of bytes
+      read_crowd roomy b =
           stopped End e f
           (⊎_elim
           (λ (g : (numbers_of bytes).good ≡ false). absurd (true≢false (sym (good_ends bytes ∙ ap at_end (sym e ∙ f)) ∙ g)))

@@ -23,7 +23,7 @@ use Rattle.script.proofs.Shapes.{tail_drop, script, Passed, is_script, none_or_p
 use Rattle.snags.specs.declared.finding.Snag.{Snag}
 use Rattle.snags.specs.declared.finding.Snag.TheVariants.{Nothing, Long, Odd, Large, Crowd, Few, ManyRows, WideRoom, ManySteps, Uneven, Kind, First, Second}
 use Rattle.snags.specs.Snags.{step_snag, row_count, front, room_in, step_count, wanted, numbers_snag, stop_snag, snag_of, words_for}
-use Rattle.snags.proofs.Found.{steps-left, stopped}
+use Rattle.snags.proofs.Found.{steps_left, stopped}
 
 -- ---- Theorem: every snag has words.
 abbrev empty : List ℕ → Bool
@@ -90,7 +90,7 @@ steps_none j (kind ∷ a ∷ b ∷ l) =
 -- ---- the numbers
 passed_nothing : (l : List ℕ) → Passed l → Nothing ≡ numbers_snag l
 passed_nothing l p =
-    steps-left l (passed_numbers l p) (omega (arith, p.enough)) p.few_rows p.enough p.small_room_lem p.few_steps (omega (arith, p.size, p.enough))
+    steps_left l (passed_numbers l p) (omega (arith, p.enough)) p.few_rows p.enough p.small_room_lem p.few_steps (omega (arith, p.size, p.enough))
     (sym (none_is (step_snag 0 _) (sym (steps_none 0 _) ∙ p.good)))
 
 nothing_passed : (l : List ℕ) → numbers_snag l ≡ Nothing → Passed l

@@ -36,15 +36,15 @@ module _ (l : List ℕ) (j at : ℕ) (i : step_snag j (drop at l) ≡ step_snag 
     step_kind a = at_true _ (lt-ltb 65535 (get_or l at 0) a) refl ∙ here
 
     module _ (a : get_or l at 0 < 65536) where
-      pub step-first : 16777215 < get_or l (at + 1) 0 → First j ≡ step_snag 0 l
-      step-first b = at_false _ (le-ltb 65535 (get_or l at 0) (omega arith)) (at_true _ (lt-ltb 16777215 (get_or l (at + 1) 0) b) refl) ∙ here
+      pub step_first : 16777215 < get_or l (at + 1) 0 → First j ≡ step_snag 0 l
+      step_first b = at_false _ (le-ltb 65535 (get_or l at 0) (omega arith)) (at_true _ (lt-ltb 16777215 (get_or l (at + 1) 0) b) refl) ∙ here
 
       module _ (b : get_or l (at + 1) 0 < 16777216) where
         last : {r : Snag} → r ≡ cond (ltb 16777215 (get_or l (at + 2) 0)) (Second j) (step_snag (suc j) (drop (at + 3) l)) → r ≡ step_snag 0 l
         last e = at_false _ (le-ltb 65535 (get_or l at 0) (omega arith)) (at_false _ (le-ltb 16777215 (get_or l (at + 1) 0) (omega arith)) e) ∙ here
 
-        pub step-second : 16777215 < get_or l (at + 2) 0 → Second j ≡ step_snag 0 l
-        step-second c = last (at_true _ (lt-ltb 16777215 (get_or l (at + 2) 0) c) refl)
+        pub step_second : 16777215 < get_or l (at + 2) 0 → Second j ≡ step_snag 0 l
+        step_second c = last (at_true _ (lt-ltb 16777215 (get_or l (at + 2) 0) c) refl)
 
-        pub step-next : get_or l (at + 2) 0 < 16777216 → step_snag (j + 1) (drop (at + 3) l) ≡ step_snag 0 l
-        step-next c = last (at_false _ (le-ltb 16777215 (get_or l (at + 2) 0) (omega arith)) (ap (λ (k : ℕ). step_snag k (drop (at + 3) l)) (add-one j)))
+        pub step_next : get_or l (at + 2) 0 < 16777216 → step_snag (j + 1) (drop (at + 3) l) ≡ step_snag 0 l
+        step_next c = last (at_false _ (le-ltb 16777215 (get_or l (at + 2) 0) (omega arith)) (ap (λ (k : ℕ). step_snag k (drop (at + 3) l)) (add-one j)))

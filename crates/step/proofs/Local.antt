@@ -41,14 +41,14 @@ module _ (o : Seen) (sound : Sound o) where
     unfree = λ e. refl;
     if_active = λ e. (refl, refl);
     if_waiting = λ e. (sym e, refl);
-    senders = nobody-had;
+    senders = nobody_had;
   }
     where
-      nobody-had : (k : Kind) → Inside (had_of k (blank_of round)) (neighbours o k)
-      nobody-had Notify = empty_inside o.ins
-      nobody-had Grant = empty_inside o.out
-      nobody-had Ack = empty_inside o.ins
-      nobody-had Done = empty_inside o.out
+      nobody_had : (k : Kind) → Inside (had_of k (blank_of round)) (neighbours o k)
+      nobody_had Notify = empty_inside o.ins
+      nobody_had Grant = empty_inside o.out
+      nobody_had Ack = empty_inside o.ins
+      nobody_had Done = empty_inside o.out
 
   opens_keep : (round : ℕ) → Keeps o (blank_of round) (be_called o Itself (blank_of round))
   opens_keep round = called_cases (Keeps o (blank_of round)) o (blank_of round) Itself

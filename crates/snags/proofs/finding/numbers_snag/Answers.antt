@@ -1,5 +1,5 @@
 -- `numbers_snag` meets its contract. Assumes nothing.
-use Rattle.snags.proofs.Found.{crowded, too_few, many_rows, rows_missing, wide_room, many_steps, uneven, steps-left}
+use Rattle.snags.proofs.Found.{crowded, too_few, many_rows, rows_missing, wide_room, many_steps, uneven, steps_left}
 use Rattle.snags.proofs.finding.numbers_snag.Goals as goal
 
 pub returns-then-there-gt-NUMBERS : goal.returns-then-there-gt-NUMBERS
@@ -24,4 +24,4 @@ pub returns-then-there-wanted : goal.returns-then-there-wanted
 returns-then-there-wanted c = uneven _ c.if-there-gt-NUMBERS.false c.if-there-lt4.false c.if-rows-gt-MOST.false c.if-there-front.false c.if-numbers-front-gt-MOST.false c.if-steps-gt-MOST.false c.if-there-wanted.true
 
 pub returns : goal.returns
-returns c = steps-left _ c.if-there-gt-NUMBERS.false c.if-there-lt4.false c.if-rows-gt-MOST.false c.if-there-front.false c.if-numbers-front-gt-MOST.false c.if-steps-gt-MOST.false c.if-there-wanted.false c.step_snag.ensures
+returns c = steps_left _ c.if-there-gt-NUMBERS.false c.if-there-lt4.false c.if-rows-gt-MOST.false c.if-there-front.false c.if-numbers-front-gt-MOST.false c.if-steps-gt-MOST.false c.if-there-wanted.false c.step_snag.ensures

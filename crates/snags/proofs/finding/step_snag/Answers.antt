@@ -1,7 +1,7 @@
 -- `step_snag` meets its contract. The loop's invariant: the steps from here on, numbered on, have the snag that all have. Assumes nothing.
 use mathlib.Core.Path.{refl}
 use native.Mathlib.Omega.{arith}
-use Rattle.snags.proofs.Steps.{step_none, step_kind, step-first, step-second, step-next}
+use Rattle.snags.proofs.Steps.{step_none, step_kind, step_first, step_second, step_next}
 use Rattle.snags.proofs.finding.step_snag.Goals as goal
 
 pub loop-at-init : goal.loop-at-init
@@ -29,7 +29,7 @@ pub bounds-list-at-in-loop-at : goal.bounds-list-at-in-loop-at
 bounds-list-at-in-loop-at c = omega arith
 
 pub returns-then-list-at-ge-PARTS : goal.returns-then-list-at-ge-PARTS
-returns-then-list-at-ge-PARTS c = step-first _ _ _ c.loop-at.invariant.2 c.loop-at-test.true c.if-list-at-ge-KINDS.false c.if-list-at-ge-PARTS.true
+returns-then-list-at-ge-PARTS c = step_first _ _ _ c.loop-at.invariant.2 c.loop-at-test.true c.if-list-at-ge-KINDS.false c.if-list-at-ge-PARTS.true
 
 pub overflow_add-at-in-loop-at-2 : goal.overflow_add-at-in-loop-at-2
 overflow_add-at-in-loop-at-2 c = omega arith
@@ -41,7 +41,7 @@ pub bounds-list-at-in-loop-at-2 : goal.bounds-list-at-in-loop-at-2
 bounds-list-at-in-loop-at-2 c = omega arith
 
 pub returns-then-list-at-ge-PARTS-2 : goal.returns-then-list-at-ge-PARTS-2
-returns-then-list-at-ge-PARTS-2 c = step-second _ _ _ c.loop-at.invariant.2 c.loop-at-test.true c.if-list-at-ge-KINDS.false c.if-list-at-ge-PARTS.false c.if-list-at-ge-PARTS-2.true
+returns-then-list-at-ge-PARTS-2 c = step_second _ _ _ c.loop-at.invariant.2 c.loop-at-test.true c.if-list-at-ge-KINDS.false c.if-list-at-ge-PARTS.false c.if-list-at-ge-PARTS-2.true
 
 pub overflow_add-at-in-loop-at-3 : goal.overflow_add-at-in-loop-at-3
 overflow_add-at-in-loop-at-3 c = omega arith
@@ -53,7 +53,7 @@ pub loop-at-smaller : goal.loop-at-smaller
 loop-at-smaller c = omega arith
 
 pub loop-at-preserved : goal.loop-at-preserved
-loop-at-preserved c = (omega arith, omega arith, step-next _ _ _ c.loop-at.invariant.2 c.loop-at-test.true c.if-list-at-ge-KINDS.false c.if-list-at-ge-PARTS.false c.if-list-at-ge-PARTS-2.false)
+loop-at-preserved c = (omega arith, omega arith, step_next _ _ _ c.loop-at.invariant.2 c.loop-at-test.true c.if-list-at-ge-KINDS.false c.if-list-at-ge-PARTS.false c.if-list-at-ge-PARTS-2.false)
 
 pub returns : goal.returns
 returns c = step_none _ _ _ c.loop-at.invariant.2 c.loop-at-test.false
