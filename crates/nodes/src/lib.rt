@@ -9,22 +9,15 @@ ghost use Rattle.nodes.specs.Words.{places, num, first_of};
 pub const PLACES: usize = 64;
 
 // A node's number, and a round's number: neither passes for the other.
-#[derive(Clone, Copy)]
+#[derive(Clone, Copy, Debug, PartialEq, Eq, PartialOrd, Ord)]
 pub struct Node(pub usize);
 
-#[derive(Clone, Copy)]
+#[derive(Clone, Copy, Debug, PartialEq, Eq, PartialOrd, Ord)]
 pub struct Round(pub u64);
 
 // A set of nodes: bit k is node k.
-#[derive(Clone, Copy)]
+#[derive(Clone, Copy, Debug, PartialEq, Eq)]
 pub struct Set(pub u64);
-
-// The smallest member of a set, if it has one.
-#[derive(Clone, Copy)]
-pub enum Smallest {
-    At(Node),
-    Nothing,
-}
 
 impl Set {
     pub fn empty() -> Set
@@ -51,19 +44,14 @@ impl Set {
     pub fn has(self, k: Node) -> bool
         ensures { result ≡ has (num self) k.0 }
     {
-        let at = k.0;
-        if PLACES <= at {
-            return false;
-        }
-        self.digit(at) == 1
+        k.0 < PLACES && self.digit(k.0) == 1
     }
 
     pub fn with(self, k: Node) -> Set
         requires { k.0 < places }
         ensures { num result ≡ with (num self) k.0 }
     {
-        let at = k.0;
-        Set(self.0 | (1u64 << at))
+        Set(self.0 | (1u64 << k.0))
     }
 
     pub fn union(self, t: Set) -> Set
@@ -90,7 +78,7 @@ impl Set {
         ensures { num result ≡ below n }
     {
         if n == PLACES {
-            return Set(18_446_744_073_709_551_615);
+            return Set(u64::MAX);
         }
         Set((1u64 << n) - 1)
     }
@@ -109,13 +97,13 @@ impl Set {
         u64::count_ones(self.0) as u64
     }
 
-    // It stands past the zeros at the low end of the word. A word of 0 has 64 of them, and no member.
-    pub fn smallest(self) -> Smallest
+    // The smallest member stands past the zeros at the low end of the word. A word of 0 has 64 of them, and no member.
+    pub fn smallest(self) -> Option<Node>
         ensures { result ≡ first_of (members (num self)) }
     {
         if self.is_empty() {
-            return Smallest::Nothing;
+            return None;
         }
-        Smallest::At(Node(u64::trailing_zeros(self.0) as usize))
+        Some(Node(u64::trailing_zeros(self.0) as usize))
     }
 }
