@@ -7,11 +7,12 @@ use Prim.Native.Nat.{ℕ, ◌+◌, ◌*◌, ◌≤◌, ◌<◌}
 use native.Mathlib.Numerals.{add-one}
 use lib.Dec.{leb, ltb, eqb}
 use borrow.Author.Tests.{le-leb, lt-leb, lt-ltb, le-ltb, leb-true, leb-false, ltb-false, eqb-true, not-false}
+use Rattle.std.specs.Prelude.{Result}
 use Rattle.lemmas.proofs.Tests.{true_or_false, or_left_false, or_right_false}
 use Rattle.nodes.specs.Sets.{has, inside, below, size}
 use Rattle.nodes.specs.Words.{places}
 use Rattle.waits.specs.declared.rows.Row.{Row}
-use Rattle.waits.specs.declared.numbers.Checked.{Checked}
+use Rattle.waits.specs.declared.numbers.Refusal.{Refusal}
 use Rattle.waits.specs.Waits.{Waits, edges_to, edges}
 use Rattle.waits.specs.Rows.{row_size, row_at, out_of, lies_in, waits_of}
 use Rattle.waits.specs.Numbers.{most_edges, strange_count, wrong_count, strange_member, waits_on_itself, nested, many_edges, check_row_of}
@@ -92,6 +93,6 @@ unfolding many_edges
 few n rows q h = ap (ltb most_edges) (sym q) ∙ le-ltb _ _ h
 
 -- what the check of row k answered
-pub row_answer : (n k : ℕ) (rows : List ℕ) {row : Row} {r x : Checked} → r ≡ check_row_of n k row → row ≡ row_at rows k → r ≡ x
+pub row_answer : (n k : ℕ) (rows : List ℕ) {row : Row} {r x : Result Unit Refusal} → r ≡ check_row_of n k row → row ≡ row_at rows k → r ≡ x
     → check_row_of n k (row_at rows k) ≡ x
 row_answer n k rows e f h = sym (e ∙ ap (check_row_of n k) f) ∙ h
