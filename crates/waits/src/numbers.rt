@@ -51,6 +51,7 @@ fn wrong_threshold(row: Row) -> bool
 }
 
 // Number 6.
+#[tactic(auto, unfolding(crate::specs::Numbers::extra_set))]
 fn extra_set(row: Row) -> bool
     ensures { result ≡ extra_set row }
 {
