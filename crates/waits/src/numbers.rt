@@ -115,6 +115,7 @@ pub fn check_row(nodes: usize, k: Node, row: Row) -> Result<(), Refusal>
 }
 
 // The first number that the graph gets, with its row.
+#[tactic(auto, using(crate::proofs::Left::checking))]
 pub fn check(nodes: usize, rows: &[u64]) -> Result<(), Refusal>
     ensures { result ≡ check_of nodes rows.now }
 {
