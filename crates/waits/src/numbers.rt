@@ -51,6 +51,7 @@ fn wrong_threshold(row: Row) -> bool
 }
 
 // Number 6.
+#[tactic(auto, unfolding(crate::specs::Numbers::extra_set))]
 fn extra_set(row: Row) -> bool
     ensures { result ≡ extra_set row }
 {
@@ -114,6 +115,7 @@ pub fn check_row(nodes: usize, k: Node, row: Row) -> Result<(), Refusal>
 }
 
 // The first number that the graph gets, with its row.
+#[tactic(auto, using(crate::proofs::Left::checking))]
 pub fn check(nodes: usize, rows: &[u64]) -> Result<(), Refusal>
     ensures { result ≡ check_of nodes rows.now }
 {

@@ -24,6 +24,7 @@ pub struct Row {
 }
 
 // The row of node k.
+#[tactic(auto, unfolding(crate::specs::Rows::row_at))]
 pub fn row_at(rows: &[u64], k: Node) -> Row
     requires { k.0 * row_size + row_size ≤ length rows.now }
     ensures { result ≡ row_at rows.now k.0 }
@@ -40,6 +41,7 @@ pub fn row_at(rows: &[u64], k: Node) -> Row
 }
 
 // Stores the row of node k.
+#[tactic(auto, unfolding(crate::specs::Rows::row_numbers, nodes::specs::Words::num))]
 pub fn put_row(rows: &mut [u64], k: Node, row: Row)
     requires { k.0 * row_size + row_size ≤ length rows.old }
     ensures { rows.new ≡ sets rows.old (k.0 * row_size) (row_numbers row) }
@@ -88,6 +90,7 @@ fn some_lies_in(row: Row, g: Set) -> bool
 }
 
 // Whether the condition holds when the nodes of g have granted.
+#[tactic(auto, unfolding(crate::specs::Rows::holds_of))]
 pub fn holds(row: Row, g: Set) -> bool
     ensures { result ≡ holds_of row (num g) }
 {
@@ -100,6 +103,7 @@ pub fn holds(row: Row, g: Set) -> bool
 }
 
 // IN: every node that has j in OUT.
+#[tactic(auto, unfolding(crate::specs::Waits::in_of), using(nodes::proofs::Gather::gather_none))]
 pub fn in_of(nodes: usize, rows: &[u64], j: Node) -> Set
     requires { Shaped nodes rows.now }
     ensures { num result ≡ in_of (waits_of nodes rows.now) j.0 }
@@ -115,6 +119,7 @@ pub fn in_of(nodes: usize, rows: &[u64], j: Node) -> Set
 }
 
 // How many edges there are: members of OUT.
+#[tactic(auto, unfolding(crate::specs::Waits::edges), using(crate::proofs::Cases::edges_none, crate::proofs::Cases::edges_suc))]
 pub fn edges(nodes: usize, rows: &[u64]) -> u64
     requires { Shaped nodes rows.now }
     ensures { result ≡ waits_edges (waits_of nodes rows.now) }
