@@ -1,7 +1,6 @@
 -- `free_more` meets its contract. The loop's invariant: the nodes passed were visited in turn. Assumes nothing.
 use mathlib.Core.Path.{ap, sym, ◌∙◌}
 use native.Mathlib.Omega.{arith}
-use borrow.Author.Rules.{rules}
 use Rattle.lemmas.proofs.Cases.{flag}
 use Rattle.nodes.specs.Words.{num}
 use Rattle.deadlock.proofs.Reduction.{joins, joins_not}
@@ -10,25 +9,13 @@ use Rattle.deadlock.proofs.reduce.free_more.Goals as goal
 use Rattle.deadlock.proofs.reduce.free_more.Goals.{then-joins, else-joins}
 
 pub loop-k-init : goal.loop-k-init
-loop-k-init c = (sym (sweep_none _ _), search rules)
-
-pub with-freed-requires : goal.with-freed-requires
-with-freed-requires c = omega arith
-
-pub overflow_add-k : goal.overflow_add-k
-overflow_add-k c = omega arith
-
-pub loop-k-smaller : goal.loop-k-smaller
-loop-k-smaller c = omega arith
+loop-k-init c = sym (sweep_none _ _)
 
 pub loop-k-preserved : goal.loop-k-preserved
-loop-k-preserved c = (
-  elim c.if-joins.branch [
-    | then-joins w ↦ ap num w.freed-is ∙ sweep_more _ _ _ _ _ c.loop-k.invariant.0 (w.with-freed.ensures ∙ joins _ _ _ (flag c.joins.ensures w.if-joins.true))
-    | else-joins w ↦ ap num w.freed-is ∙ sweep_more _ _ _ _ _ c.loop-k.invariant.0 (joins_not _ _ _ (flag c.joins.ensures w.if-joins.false))
-  ],
-  omega arith,
-)
+loop-k-preserved c = elim c.if-joins.branch [
+  | then-joins w ↦ ap num w.freed-is ∙ sweep_more _ _ _ _ _ c.loop-k.invariant (w.with-freed.ensures ∙ joins _ _ _ (flag c.joins.ensures w.if-joins.true))
+  | else-joins w ↦ ap num w.freed-is ∙ sweep_more _ _ _ _ _ c.loop-k.invariant (joins_not _ _ _ (flag c.joins.ensures w.if-joins.false))
+]
 
 pub returns : goal.returns
-returns c = sweep_whole _ _ _ _ _ (omega arith) c.loop-k.invariant.0
+returns c = sweep_whole _ _ _ _ _ (omega arith) c.loop-k.invariant
