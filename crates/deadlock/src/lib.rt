@@ -7,6 +7,7 @@ mod reach;
 mod reduce;
 mod refusals;
 mod ring;
+mod visits;
 mod waiters;
 
 pub use claims::{all_deadlocked, deadlocked};

@@ -3,39 +3,39 @@ ghost use Rattle.std.specs.Prelude.{◌≡◌, ◌<◌};
 ghost use Rattle.nodes.specs.Words.{num};
 ghost use Rattle.waits.specs.Graph.{graph_of};
 ghost use Rattle.deadlock.specs.Sweeps.{reaching, ahead_within};
-ghost use Rattle.deadlock.specs.Sweeps.{sweep as sweep_of, ahead as ahead_of};
+ghost use Rattle.deadlock.specs.Sweeps.{ahead as ahead_of};
 
+use crate::visits::{Visit, settle};
 use nodes::{Node, Set};
 use waits::{Graph, out_of};
 
-// Every node visited in turn: if it is one of the reached ones, those that it waits on, within a set, join them.
-fn reach_more(graph: Graph, within: Set, g: Set) -> Set
-    ensures { num result ≡ sweep_of (reaching (graph_of graph.entry) (num within)) graph.entry.nodes (num g) }
-{
-    let mut reached = g;
-    for k in 0..graph.nodes {
-        if reached.has(Node(k)) {
-            reached = reached.union(within.meet(out_of(graph.row(Node(k)))));
-        }
-    }
-    reached
+// If a node that is visited is one of the reached ones, those that it waits on, within a set, join them.
+#[derive(Clone, Copy)]
+struct Reaching {
+    within: Set,
 }
 
-// The nodes to which a path of one or more edges leads from i, all of whose nodes after i are in a set. A sweep that
-// reaches nobody new is the last.
+impl Visit for Reaching {
+    ghost by = { λ s w. reaching w (num s.within) };
+
+    fn visit(self, graph: Graph, k: Node, g: Set) -> Set {
+        if g.has(k) {
+            return g.union(self.within.meet(out_of(graph.row(k))));
+        }
+        g
+    }
+}
+
+// The nodes to which a path of one or more edges leads from i, all of whose nodes after i are in a set.
 pub fn ahead_within(graph: Graph, within: Set, i: Node) -> Set
     requires { i.0 < graph.nodes }
     ensures { num result ≡ ahead_within (graph_of graph.entry) (num within) i.0 }
 {
-    let mut g = within.meet(out_of(graph.row(i)));
-    for t in 0..graph.nodes {
-        let next = reach_more(graph, within, g);
-        if next.minus(g).is_empty() {
-            return g;
-        }
-        g = next;
-    }
-    g
+    settle(
+        graph,
+        Reaching { within },
+        within.meet(out_of(graph.row(i))),
+    )
 }
 
 // The nodes to which any path of one or more edges leads from i.

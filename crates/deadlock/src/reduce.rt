@@ -4,8 +4,9 @@ ghost use Rattle.nodes.specs.Sets.{has};
 ghost use Rattle.nodes.specs.Words.{num};
 ghost use Rattle.waits.specs.Graph.{graph_of};
 ghost use Rattle.deadlock.specs.Sweeps.{freeing};
-ghost use Rattle.deadlock.specs.Sweeps.{sweep as sweep_of, freed as freed_of, stuck as stuck_of};
+ghost use Rattle.deadlock.specs.Sweeps.{freed as freed_of, stuck as stuck_of};
 
+use crate::visits::{Visit, settle};
 use nodes::{Node, Set};
 use waits::{Graph, holds};
 
@@ -17,32 +18,26 @@ fn joins(graph: Graph, freed: Set, k: Node) -> bool
     !freed.has(k) && holds(graph.row(k), freed)
 }
 
-// Every node visited in turn: it joins the freed ones if its condition holds with them granting.
-fn free_more(graph: Graph, g: Set) -> Set
-    ensures { num result ≡ sweep_of (freeing (graph_of graph.entry)) graph.entry.nodes (num g) }
-{
-    let mut freed = g;
-    for k in 0..graph.nodes {
-        if joins(graph, freed, Node(k)) {
-            freed = freed.with(Node(k));
+// A node that is visited joins the freed ones if its condition holds with them granting.
+#[derive(Clone, Copy)]
+struct Freeing;
+
+impl Visit for Freeing {
+    ghost by = { λ s. freeing };
+
+    fn visit(self, graph: Graph, k: Node, g: Set) -> Set {
+        if joins(graph, g, k) {
+            return g.with(k);
         }
+        g
     }
-    freed
 }
 
-// The nodes that some reduction frees. A sweep that frees nobody is the last; as many as there are nodes are enough.
+// The nodes that some reduction frees.
 fn freed(graph: Graph) -> Set
     ensures { num result ≡ freed_of (graph_of graph.entry) }
 {
-    let mut g = Set::empty();
-    for t in 0..graph.nodes {
-        let next = free_more(graph, g);
-        if next.minus(g).is_empty() {
-            return g;
-        }
-        g = next;
-    }
-    g
+    settle(graph, Freeing, Set::empty())
 }
 
 // The nodes that no reduction frees.
