@@ -10,9 +10,6 @@ loop-at-init c = (omega arith, refl)
 pub returns-then-list-at : goal.returns-then-list-at
 returns-then-list-at c = ascending_broken _ _ c.loop-at.invariant c.loop-at-test.true (omega (arith, c.if-list-at.true))
 
-pub loop-at-smaller : goal.loop-at-smaller
-loop-at-smaller c = omega arith
-
 pub loop-at-preserved : goal.loop-at-preserved
 loop-at-preserved c = ascending_passed _ _ c.loop-at.invariant c.loop-at-test.true (omega (arith, c.if-list-at.false))
 
