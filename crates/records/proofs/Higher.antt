@@ -7,7 +7,7 @@ use native.Mathlib.Omega.{arith}
 use lib.Dec.{eqb, ltb}
 use borrow.Author.Tests.{not-false, lt-ltb, ltb-true, ltb-false, le-ltb, eqb-false, ne_eqb}
 use Rattle.lemmas.proofs.Tests.{or_left_false, or_right_false}
-use Rattle.records.specs.declared.rounds.Compared.TheVariants.{Behind, Same, Ahead}
+use Rattle.std.specs.declared.cmp.Ordering.TheVariants.{Less, Equal, Greater}
 use Rattle.records.specs.Rounds.{last_round, compare_of, is_behind, is_ahead, behind, ahead, no_round, cannot_open}
 use Rattle.records.specs.Records.{State, blank_of, in_round}
 
@@ -15,10 +15,10 @@ use Rattle.records.specs.Records.{State, blank_of, in_round}
 by_test : (round own : ℕ) (p : Bool) → ltb round own ≡ p → ahead round own ≡ ltb own round
 unfolding ahead compare_of
 by_test round own true e =
-    ap (λ (b : Bool). is_ahead (cond b Behind (cond (ltb own round) Ahead Same))) e ∙ (let h = ltb-true round own e in rw (le-ltb own round (omega arith)) refl)
-by_test round own false e = ap (λ (b : Bool). is_ahead (cond b Behind (cond (ltb own round) Ahead Same))) e ∙ other (ltb own round)
+    ap (λ (b : Bool). is_ahead (cond b Less (cond (ltb own round) Greater Equal))) e ∙ (let h = ltb-true round own e in rw (le-ltb own round (omega arith)) refl)
+by_test round own false e = ap (λ (b : Bool). is_ahead (cond b Less (cond (ltb own round) Greater Equal))) e ∙ other (ltb own round)
   where
-    other : (b : Bool) → is_ahead (cond b Ahead Same) ≡ b
+    other : (b : Bool) → is_ahead (cond b Greater Equal) ≡ b
     other true = refl
     other false = refl
 
@@ -30,7 +30,7 @@ lower : (round own : ℕ) → behind round own ≡ ltb round own
 unfolding behind compare_of
 lower round own = go (ltb round own) (ltb own round)
   where
-    go : (p q : Bool) → is_behind (cond p Behind (cond q Ahead Same)) ≡ p
+    go : (p q : Bool) → is_behind (cond p Less (cond q Greater Equal)) ≡ p
     go true q = refl
     go false true = refl
     go false false = refl
