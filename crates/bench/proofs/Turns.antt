@@ -9,7 +9,8 @@ use lib.ListN.{length, get_or, drop, set, length-set, drop_of_length-le}
 use lib.Seq.{sets, drop-cons}
 use borrow.Author.Tests.{le-ltb}
 use Rattle.lemmas.proofs.Cases.{at_true, at_false}
-use Rattle.waits.specs.declared.numbers.Checked.TheVariants.{Accepted}
+use Rattle.std.specs.Prelude.{Result, Ok}
+use Rattle.waits.specs.declared.numbers.Refusal.{Refusal}
 use Rattle.waits.specs.Rows.{waits_of}
 use Rattle.step.specs.declared.answers.Answer.{Answer}
 use Rattle.step.specs.Answers.{code_of}
@@ -38,7 +39,7 @@ turn_first n rows steps start found good =
     record { good = good; below = omega arith; long_records = refl; long_messages = refl; long = refl; bench = refl; list = refl }
 
 module _ (n : ℕ) (rows steps : List ℕ) (start : Bench) (found : List ℕ) (b : Bench) (answers : List ℕ) (j : ℕ) (t : Turn n rows steps start found b answers j) where
-  module _ {s : Step} {b' : Bench} {answer : Answer} (asked : s ≡ step_of (get_or steps j 0)) (took : after b' answer ≡ take_step (waits_of n rows) b s) where
+  module _ {s : Step} {b' : Bench} {answer : Result Answer Refusal} (asked : s ≡ step_of (get_or steps j 0)) (took : after b' answer ≡ take_step (waits_of n rows) b s) where
     -- the step by itself
     alone : after b' answer ≡ step_on n rows b (step_of (get_or steps j 0))
     alone = took ∙ ap (take_step (waits_of n rows) b) asked ∙ step_taken n rows b t.good (step_of (get_or steps j 0))
@@ -70,10 +71,10 @@ module _ (n : ℕ) (rows steps : List ℕ) (start : Bench) (found : List ℕ) (b
               ∙ sym (ap (λ (l : List ℕ). sets answers j (answers_on n rows b l)) cut) ∙ t.list;
         }
 
-  pub turns_ended : length steps ≤ j → run b answers Accepted ≡ run (run_on n rows start steps) (sets found 0 (answers_on n rows start steps)) Accepted
+  pub turns_ended : length steps ≤ j → run b answers (Ok tt) ≡ run (run_on n rows start steps) (sets found 0 (answers_on n rows start steps)) (Ok tt)
   turns_ended h =
       let none : drop j steps ≡ [] = drop_of_length-le steps h in
-      ap₂ (λ (x : Bench) (l : List ℕ). run x l Accepted)
+      ap₂ (λ (x : Bench) (l : List ℕ). run x l (Ok tt))
       (sym (ap (run_on n rows b) none) ∙ t.bench)
       (sym (ap (λ (l : List ℕ). sets answers j (answers_on n rows b l)) none) ∙ t.list)
 
@@ -96,6 +97,6 @@ module _ (n : ℕ) (rows : List ℕ) (b : Bench) (steps answers : List ℕ) wher
   unfolding run_of
   run_refused e = sym (at_true _ e refl)
 
-  pub run_taken : Good n rows b → length steps ≤ length answers → run_of n rows b steps answers ≡ run (run_on n rows b steps) (sets answers 0 (answers_on n rows b steps)) Accepted
+  pub run_taken : Good n rows b → length steps ≤ length answers → run_of n rows b steps answers ≡ run (run_on n rows b steps) (sets answers 0 (answers_on n rows b steps)) (Ok tt)
   unfolding run_of
   run_taken e h = sym (at_false (refuse_all 13 b answers) e (at_false (refuse_all 15 b answers) (le-ltb (length answers) (length steps) h) refl))

@@ -1,5 +1,5 @@
 // The two calls of a bench, for every input: a step by itself, and a list of steps.
-ghost use Rattle.std.specs.Prelude.{◌≡◌, ◌≤◌, length};
+ghost use Rattle.std.specs.Prelude.{◌≡◌, ◌≤◌, length, Ok};
 ghost use Rattle.std.proofs.lemmas.List.Edits.{sets};
 ghost use Rattle.bench.specs.Bench.{bench, after};
 ghost use Rattle.bench.specs.Strange.{Good};
@@ -11,14 +11,14 @@ use crate::checks::strange_bench;
 use crate::steps::{Reply, refuse, take_step};
 use lent::{Step, answer_number, step_of};
 use nodes::{Node, Round};
-use waits::{Checked, refused};
+use waits::{Refusal, refused};
 
 // How many messages are sent now, the highest round opened, and whether the list was refused as a whole.
 #[derive(Clone, Copy)]
 pub struct Ran {
     pub sent: usize,
     pub highest: Round,
-    pub checked: Checked,
+    pub checked: Result<(), Refusal>,
 }
 
 // One step by itself.
@@ -51,25 +51,21 @@ fn take_steps(
     answers: &mut [u64],
 ) -> Ran
     requires { Good nodes rows.now (bench records.old messages.old sent highest.0) × (length steps.now ≤ length answers.old) }
-    ensures { the_run (bench records.new messages.new result.sent result.highest.0) answers.new result.checked ≡ the_run (run_on nodes rows.now (bench records.old messages.old sent highest.0) steps.now) (sets answers.old 0 (answers_on nodes rows.now (bench records.old messages.old sent highest.0) steps.now)) Checked.Accepted }
+    ensures { the_run (bench records.new messages.new result.sent result.highest.0) answers.new result.checked ≡ the_run (run_on nodes rows.now (bench records.old messages.old sent highest.0) steps.now) (sets answers.old 0 (answers_on nodes rows.now (bench records.old messages.old sent highest.0) steps.now)) (Ok tt) }
 {
     let mut count = sent;
     let mut top = highest;
-    let mut j: usize = 0;
-    while j < steps.len() {
+    for j in 0..steps.len() {
         let s = step_of(steps[j]);
         let reply = take_step(nodes, rows, records, messages, count, top, s);
-        let answer = reply.answer;
-        let next = reply.highest;
         count = reply.sent;
-        top = next;
-        answers[j] = answer_number(count, answer);
-        j += 1;
+        top = reply.highest;
+        answers[j] = answer_number(count, reply.answer);
     }
     Ran {
         sent: count,
         highest: top,
-        checked: Checked::Accepted,
+        checked: Ok(()),
     }
 }
 
@@ -88,15 +84,15 @@ pub fn run(
 {
     if strange_bench(nodes, rows, records, messages, sent, highest) {
         return Ran {
-            sent: sent,
-            highest: highest,
+            sent,
+            highest,
             checked: refused(13, Node(0)),
         };
     }
     if answers.len() < steps.len() {
         return Ran {
-            sent: sent,
-            highest: highest,
+            sent,
+            highest,
             checked: refused(15, Node(0)),
         };
     }

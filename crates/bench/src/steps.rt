@@ -20,27 +20,24 @@ use lent::{Step, message_of, put_record, record_at, send, total};
 use nodes::{Node, Round};
 use records::{Message, cannot_open};
 use step::{Answer, Own, Stepped, open_round, receive};
-use waits::{Refusal, in_of, row_at};
+use waits::{Graph, Refusal};
 
 // How many messages are sent now, the highest round opened, and the answer.
 #[derive(Clone, Copy)]
 pub struct Reply {
     pub sent: usize,
     pub highest: Round,
-    pub answer: Answer,
+    pub answer: Result<Answer, Refusal>,
 }
 
 pub fn refuse(number: u64, sent: usize, highest: Round) -> Reply
     ensures { result ≡ refused number sent highest }
 {
-    let refusal = Refusal {
-        number: number,
-        row: Node(0),
-    };
+    let row = Node(0);
     Reply {
-        sent: sent,
-        highest: highest,
-        answer: Answer::Refused(refusal),
+        sent,
+        highest,
+        answer: Err(Refusal { number, row }),
     }
 }
 
@@ -57,19 +54,15 @@ fn join(
     requires { (i.0 * record_size + record_size ≤ length records.old) × (i.0 < places) × (sent ≤ most_room) × (did.state.round.0 ≤ last_round) × ((k : Kind) → Inside (to_whom (receivers_of did.sends) k) (below places)) }
     ensures { after (bench records.new messages.new result.sent result.highest.0) result.answer ≡ join_of (bench records.old messages.old sent highest.0) next.0 i.0 (outcome_of did) }
 {
-    let state = did.state;
-    let sends = did.sends;
-    let answer = did.answer;
-    let round = state.round;
-    if room(messages.len()) < sent + total(sends) {
+    if room(messages.len()) < sent + total(did.sends) {
         return refuse(12, sent, highest);
     }
-    put_record(records, i, state);
-    let count = send(messages, sent, i, round, sends);
+    put_record(records, i, did.state);
+    let count = send(messages, sent, i, did.state.round, did.sends);
     Reply {
         sent: count,
         highest: next,
-        answer: answer,
+        answer: did.answer,
     }
 }
 
@@ -78,10 +71,11 @@ fn own_of(nodes: usize, rows: &[u64], i: Node) -> Own
     requires { Shaped nodes rows.now × (i.0 < nodes) }
     ensures { seen_of result ≡ seen_in (waits_of nodes rows.now) i.0 }
 {
+    let graph = Graph::new(nodes, rows);
     Own {
         me: i,
-        row: row_at(rows, i),
-        ins: in_of(nodes, rows, i),
+        row: graph.row(i),
+        ins: graph.in_of(i),
     }
 }
 
@@ -120,9 +114,8 @@ fn arrive_at(
     requires { Good nodes rows.now (bench records.old messages.old sent highest.0) × (strange_message_on nodes highest.0 m ≡ false) }
     ensures { after (bench records.new messages.new result.sent result.highest.0) result.answer ≡ arrive_at (waits_of nodes rows.now) (bench records.old messages.old sent highest.0) (letter_of m) }
 {
-    let to = m.to;
-    let did = receive(own_of(nodes, rows, to), record_at(records, to), m);
-    join(records, messages, sent, highest, highest, to, did)
+    let did = receive(own_of(nodes, rows, m.to), record_at(records, m.to), m);
+    join(records, messages, sent, highest, highest, m.to, did)
 }
 
 fn deliver_at(

@@ -7,8 +7,8 @@ use native.Mathlib.Numerals.{add-one}
 use native.Mathlib.Omega.{arith}
 use lib.ListN.{length, set, length-set}
 use lib.Seq.{sets}
+use Rattle.std.specs.Prelude.{Some, None}
 use Rattle.nodes.specs.declared.Node.{Node}
-use Rattle.nodes.specs.declared.Smallest.TheVariants.{At, Nothing}
 use Rattle.nodes.specs.Sets.{Inside, single, with, minus, below, members, size}
 use Rattle.nodes.specs.Words.{places, first_of}
 use Rattle.nodes.proofs.Operations.{with_empty, in_minus, in_below}
@@ -29,14 +29,14 @@ pub record Sending (first at to : ℕ) (found now : List ℕ) (place left : ℕ)
   pub list : sets now place (numbers first left) ≡ sets found at (numbers first to)
 
 module _ (first at to : ℕ) (found now : List ℕ) (place left : ℕ) (w : Sending first at to found now place left) where
-  pub sending_ended : Nothing ≡ first_of (members left) → (place ≡ at + size to) × (now ≡ sets found at (numbers first to))
+  pub sending_ended : None ≡ first_of (members left) → (place ≡ at + size to) × (now ≡ sets found at (numbers first to))
   sending_ended e =
       let none = members_ended left e in (
         (let z : size left ≡ 0 = size_members left ∙ ap length none in omega (arith, w.count)),
         sym (ap (λ (l : List ℕ). sets now place (map (λ k. first + k) l)) none) ∙ w.list,
       )
 
-  module _ (k : Node) (e : At k ≡ first_of (members left)) where
+  module _ (k : Node) (e : Some k ≡ first_of (members left)) where
     cut : members left ≡ k.0 ∷ members (minus left (single k.0))
     cut = members_first left k e
 
