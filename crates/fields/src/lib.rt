@@ -9,4 +9,4 @@ mod words;
 pub use ends::{find, line_end};
 pub use numbers::{Numbered, number_in};
 pub use sets::{Gathered, set_in};
-pub use words::{Part, bare, same};
+pub use words::{bare, same};
