@@ -2,32 +2,12 @@
 ghost use Rattle.std.specs.Prelude.{◌≡◌};
 ghost use Rattle.text.specs.Digits.{grown as grown_of};
 
-// The largest number of 64 bits.
-const LARGEST: u64 = 18446744073709551615;
-
-// What a byte makes of a number that it follows.
-#[derive(Clone, Copy)]
-pub enum Next {
-    Number(u64),
-    Strange,
-}
-
-// The number with one digit more.
-pub fn grown(v: u64, b: u8) -> Next
+// The number with one digit more, where the byte is a digit and the number has 64 bits at most.
+pub fn grown(v: u64, b: u8) -> Option<u64>
     ensures { result ≡ grown_of v b }
 {
-    if b < b'0' {
-        return Next::Strange;
+    if !b.is_ascii_digit() {
+        return None;
     }
-    if b'9' < b {
-        return Next::Strange;
-    }
-    let digit = (b - b'0') as u64;
-    if LARGEST / 10 < v {
-        return Next::Strange;
-    }
-    if LARGEST - digit < v * 10 {
-        return Next::Strange;
-    }
-    Next::Number(v * 10 + digit)
+    v.checked_mul(10)?.checked_add((b - b'0') as u64)
 }

@@ -7,7 +7,7 @@ ghost use Rattle.text.specs.Text.{text, write};
 
 mod digits;
 
-pub use digits::{Next, grown};
+pub use digits::grown;
 
 // Writes a byte at a place if there is one, and says where the next goes.
 pub fn put(room: &mut [u8], at: usize, byte: u8) -> usize
@@ -25,10 +25,8 @@ pub fn bytes(room: &mut [u8], at: usize, b: &[u8]) -> usize
     ensures { text room.new result ≡ write (text room.old at) b.now }
 {
     let mut end = at;
-    let mut i: usize = 0;
-    while i < b.len() {
-        end = put(room, end, b[i]);
-        i += 1;
+    for &byte in b {
+        end = put(room, end, byte);
     }
     end
 }
