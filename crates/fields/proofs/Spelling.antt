@@ -1,19 +1,17 @@
 -- A field without its quotes, and texts that are the same. Assumes nothing.
-use mathlib.Core.Path.{◌≡◌, refl, sym, ap, ap₂, subst, ◌∙◌}
-use mathlib.Core.Bool.{Bool, true, false, cond, ◌&&◌}
+use mathlib.Core.Path.{◌≡◌, refl, ap}
+use mathlib.Core.Bool.{Bool, false, ◌&&◌}
 use mathlib.Core.List.{List, [], ◌∷◌}
-use Prim.Native.Nat.{ℕ, suc, ◌+◌, ◌-◌, ◌≤◌, ◌<◌}
+use Prim.Native.Nat.{ℕ, ◌-◌, ◌≤◌, ◌<◌}
 use native.Mathlib.Omega.{arith}
 use lib.Dec.{leb, eqb}
-use lib.ListN.{length, get_or, take, drop, drop_of_length-le}
-use lib.Seq.{take-length}
-use borrow.Author.Tests.{le-leb, lt-leb, eq-eqb, ne_eqb, leb-true}
+use lib.ListN.{length, get_or, take, drop}
+use borrow.Author.Tests.{le-leb, lt-leb, eq-eqb, ne_eqb}
 use Rattle.std.specs.Cmp.Lexicographic.{pointwise}
 use Rattle.lemmas.proofs.Cases.{at_true, at_false}
-use Rattle.lemmas.proofs.Tests.{and_intro, and_left, and_first, and_later}
+use Rattle.lemmas.proofs.Tests.{and_intro, and_first, and_later}
 use Rattle.format.specs.Cut.{quote}
 use Rattle.format.specs.Fields.{quoted, bare, same}
-use Rattle.fields.proofs.Finding.{here}
 
 -- ---- quotes
 module _ (w : List ℕ) where

@@ -1,21 +1,19 @@
 -- What the functions answer of a piece: the number or the set that it is. Assumes nothing.
-use Rattle.std.specs.Prelude.{cond, ◌&&◌, ℕ, leb, ltb}
-use Rattle.std.proofs.Math.Option.{Option, none, some}
+use Rattle.std.specs.Prelude.{cond, ◌&&◌, ℕ, leb, ltb, Option, Some, None}
+use Rattle.std.proofs.Math.Option.{Option as Maybe, none, some}
+use Rattle.nodes.specs.declared.Set.{Set}
 use Rattle.nodes.specs.Words.{places, as_set}
-use Rattle.fields.specs.declared.numbers.Numbered.{Numbered}
-use Rattle.fields.specs.declared.numbers.Numbered.TheVariants.{NoNumber, Number}
-use Rattle.fields.specs.declared.sets.Gathered.{Gathered}
-use Rattle.fields.specs.declared.sets.Gathered.TheVariants.{NoSet, Members}
 
-unfoldable pub numbered : Option ℕ → Numbered
-numbered none = NoNumber
-numbered (some n) = Number n
+-- the code's own option of a number
+unfoldable pub numbered : Maybe ℕ → Option ℕ
+numbered none = None
+numbered (some n) = Some n
 
 -- a member that may come next: no lower than the lowest, and a set has a place for it
-unfoldable pub member_of : (lowest : ℕ) → Option ℕ → Numbered
-member_of lowest none = NoNumber
-member_of lowest (some m) = cond (leb lowest m && ltb m places) (Number m) NoNumber
+unfoldable pub member_of : (lowest : ℕ) → Maybe ℕ → Option ℕ
+member_of lowest none = None
+member_of lowest (some m) = cond (leb lowest m && ltb m places) (Some m) None
 
-unfoldable pub gathered : Option ℕ → Gathered
-gathered none = NoSet
-gathered (some s) = Members (as_set s)
+unfoldable pub gathered : Maybe ℕ → Option Set
+gathered none = None
+gathered (some s) = Some (as_set s)
