@@ -12,20 +12,20 @@ use lib.ListN.{length}
 use lib.Arith.{lt-one}
 use lib.Pow.{shr_lt}
 use lib.Count.{count_trailing_zeros, under}
+use Rattle.std.specs.Prelude.{Option, Some, None}
 use Rattle.lemmas.proofs.Ascending.{ascending_unique}
 use Rattle.lemmas.proofs.Once.{not_first}
 use Rattle.nodes.specs.declared.Node.{Node}
-use Rattle.nodes.specs.declared.Smallest.{Smallest}
-use Rattle.nodes.specs.declared.Smallest.TheVariants.{At, Nothing}
-use Rattle.nodes.specs.Sets.{single, with, minus, only, members, size}
+use Rattle.nodes.specs.Sets.{In, Inside, single, with, minus, only, members, size}
 use Rattle.nodes.specs.Words.{first_of}
 use Rattle.nodes.proofs.Bit.{in_lt}
 use Rattle.nodes.proofs.Operations.{with_empty, in_minus, bit_single_same, bit_single_other}
+use Rattle.nodes.proofs.Inside.{inside_in}
 use Rattle.nodes.proofs.Members.{from, from_step, from_none, members_from_lem, members_in, members_ascending}
 use Rattle.nodes.proofs.Size.{size_members}
 
-abbrev found : ℕ → Smallest
-found k = At (record { 0 = k })
+abbrev found : ℕ → Option Node
+found k = Some (record { 0 = k })
 
 -- ---- past the zeros at a word's low end, which the machine counts
 first_from : (w j s : ℕ) → s < 2 ^ w → (s ≡ 0 → ⊥) → first_of (from j s) ≡ found (j + count_trailing_zeros w s)
@@ -43,15 +43,15 @@ first_from (suc w) j s h some =
 pub first_trailing : (w s : ℕ) → s < 2 ^ w → (s ≡ 0 → ⊥) → found (count_trailing_zeros w s) ≡ first_of (members s)
 first_trailing w s h some = sym (ap first_of (members_from_lem s) ∙ first_from w 0 s h some ∙ ap found (zero-add _))
 
-pub first_none : (s : ℕ) → s ≡ 0 → Nothing ≡ first_of (members s)
+pub first_none : (s : ℕ) → s ≡ 0 → None ≡ first_of (members s)
 first_none s e = sym (ap first_of (ap members e ∙ members_from_lem 0 ∙ from_none 0))
 
 -- ---- what is left without it
-abbrev number : Smallest → ℕ
-number (At k) = suc k.0
-number Nothing = zero
+abbrev number : Option Node → ℕ
+number (Some k) = suc k.0
+number None = zero
 
-first_of_lem : (s : ℕ) (k : Node) (l : List ℕ) → members s ≡ l → first_of l ≡ At k → members s ≡ k.0 ∷ members (minus s (single k.0))
+first_of_lem : (s : ℕ) (k : Node) (l : List ℕ) → members s ≡ l → first_of l ≡ Some k → members s ≡ k.0 ∷ members (minus s (single k.0))
 first_of_lem s k [] e f = absurd (suc-ne-zero _ (sym (ap number f)))
 first_of_lem s k (x ∷ l) e f =
     let same : x ≡ k.0 = suc_inj (ap number f) in
@@ -68,18 +68,18 @@ first_of_lem s k (x ∷ l) e f =
     )) in
     e ∙ ap₂ (λ (y : ℕ) (r : List ℕ). y ∷ r) same (rest ∙ ap (λ (y : ℕ). members (minus s (single y))) same)
 
-pub members_first : (s : ℕ) (k : Node) → At k ≡ first_of (members s) → members s ≡ k.0 ∷ members (minus s (single k.0))
+pub members_first : (s : ℕ) (k : Node) → Some k ≡ first_of (members s) → members s ≡ k.0 ∷ members (minus s (single k.0))
 members_first s k e = first_of_lem s k (members s) refl (sym e)
 
-none_of : (l : List ℕ) → Nothing ≡ first_of l → l ≡ []
+none_of : (l : List ℕ) → None ≡ first_of l → l ≡ []
 none_of [] e = refl
 none_of (x ∷ l) e = absurd (suc-ne-zero _ (sym (ap number e)))
 
-pub members_ended : (s : ℕ) → Nothing ≡ first_of (members s) → members s ≡ []
+pub members_ended : (s : ℕ) → None ≡ first_of (members s) → members s ≡ []
 members_ended s e = none_of (members s) e
 
 -- ---- as a loop takes the smallest member out again and again: the set of it alone is made of the empty one
-module _ (s : ℕ) (k : Node) (first : At k ≡ first_of (members s)) where
+module _ (s : ℕ) (k : Node) (first : Some k ≡ first_of (members s)) where
   pub first_place : (w : ℕ) → s < 2 ^ w → k.0 < w
   first_place w h = in_lt w s k.0 h ((members_in s k.0).0 (rw (members_first s k first) (here refl)))
 
@@ -91,3 +91,14 @@ module _ (s : ℕ) (k : Node) (first : At k ≡ first_of (members s)) where
 
     pub first_less : size t < size s
     first_less = omega (arith, size_members s, ap length first_rest, size_members t)
+
+-- ---- as a walk gives it: the first of the members, and then those of another set
+module _ (s t k : ℕ) (e : members s ≡ k ∷ members t) where
+  pub walk_in : In k s
+  walk_in = (members_in s k).0 (rw e (here refl))
+
+  pub walk_inside : Inside t s
+  walk_inside = inside_in t s (λ j i. (members_in s j).0 (rw e (there ((members_in t j).1 i))))
+
+  pub walk_size : size s ≡ suc (size t)
+  walk_size = size_members s ∙ ap length e ∙ ap suc (sym (size_members t))

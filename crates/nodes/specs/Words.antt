@@ -1,8 +1,9 @@
 -- The sets, nodes and answers of the code, read as numbers. Assumes nothing.
-use Rattle.std.specs.Prelude.{List, [], ◌∷◌, ℕ}
+use Rattle.std.specs.Prelude.{List, [], ◌∷◌, ℕ, Option, Some, None}
+use Rattle.nodes.specs.declared.Node.{Node}
 use Rattle.nodes.specs.declared.Set.{Set}
-use Rattle.nodes.specs.declared.Smallest.{Smallest}
-use Rattle.nodes.specs.declared.Smallest.TheVariants.{At, Nothing}
+use Rattle.nodes.specs.declared.InTurn.{InTurn}
+use Rattle.nodes.specs.Sets.{members}
 
 -- how many places a set of the code has: the nodes 0 to places - 1
 abbrev pub places : ℕ
@@ -17,6 +18,10 @@ unfoldable pub as_set : ℕ → Set
 as_set n = record { 0 = n }
 
 -- the head of an ascending list of members
-abbrev pub first_of : List ℕ → Smallest
-first_of [] = Nothing
-first_of (k ∷ l) = At (record { 0 = k })
+abbrev pub first_of : List ℕ → Option Node
+first_of [] = None
+first_of (k ∷ l) = Some (record { 0 = k })
+
+-- the members that a walk over a set has still to give, ascending
+unfoldable pub to_come : InTurn → List ℕ
+to_come w = members (num w.left)

@@ -1,30 +1,23 @@
 // Nodes, rounds, and sets of nodes. Nothing outside this crate shifts or masks.
 #![tactic(auto)]
 
-ghost use Rattle.std.specs.Prelude.{◌≡◌, ◌<◌, ◌≤◌, eqb};
+ghost use Rattle.std.specs.Prelude.{◌≡◌, ◌<◌, ◌≤◌, eqb, MatchOption, [], ◌∷◌};
 ghost use Rattle.nodes.specs.Sets.{bit, has, union, meet, minus, with, below, inside, members, size};
-ghost use Rattle.nodes.specs.Words.{places, num, first_of};
+ghost use Rattle.nodes.specs.Words.{places, num, first_of, to_come};
 
 // How many places a set has.
 pub const PLACES: usize = 64;
 
 // A node's number, and a round's number: neither passes for the other.
-#[derive(Clone, Copy)]
+#[derive(Clone, Copy, Debug, PartialEq, Eq, PartialOrd, Ord)]
 pub struct Node(pub usize);
 
-#[derive(Clone, Copy)]
+#[derive(Clone, Copy, Debug, PartialEq, Eq, PartialOrd, Ord)]
 pub struct Round(pub u64);
 
 // A set of nodes: bit k is node k.
-#[derive(Clone, Copy)]
+#[derive(Clone, Copy, Debug, PartialEq, Eq)]
 pub struct Set(pub u64);
-
-// The smallest member of a set, if it has one.
-#[derive(Clone, Copy)]
-pub enum Smallest {
-    At(Node),
-    Nothing,
-}
 
 impl Set {
     pub fn empty() -> Set
@@ -51,19 +44,14 @@ impl Set {
     pub fn has(self, k: Node) -> bool
         ensures { result ≡ has (num self) k.0 }
     {
-        let at = k.0;
-        if PLACES <= at {
-            return false;
-        }
-        self.digit(at) == 1
+        k.0 < PLACES && self.digit(k.0) == 1
     }
 
     pub fn with(self, k: Node) -> Set
         requires { k.0 < places }
         ensures { num result ≡ with (num self) k.0 }
     {
-        let at = k.0;
-        Set(self.0 | (1u64 << at))
+        Set(self.0 | (1u64 << k.0))
     }
 
     pub fn union(self, t: Set) -> Set
@@ -90,7 +78,7 @@ impl Set {
         ensures { num result ≡ below n }
     {
         if n == PLACES {
-            return Set(18_446_744_073_709_551_615);
+            return Set(u64::MAX);
         }
         Set((1u64 << n) - 1)
     }
@@ -109,13 +97,52 @@ impl Set {
         u64::count_ones(self.0) as u64
     }
 
-    // It stands past the zeros at the low end of the word. A word of 0 has 64 of them, and no member.
-    pub fn smallest(self) -> Smallest
+    // The smallest member stands past the zeros at the low end of the word. A word of 0 has 64 of them, and no member.
+    pub fn smallest(self) -> Option<Node>
         ensures { result ≡ first_of (members (num self)) }
     {
         if self.is_empty() {
-            return Smallest::Nothing;
+            return None;
         }
-        Smallest::At(Node(u64::trailing_zeros(self.0) as usize))
+        Some(Node(u64::trailing_zeros(self.0) as usize))
+    }
+
+    // The smallest member and the set of the others, if there is a member.
+    fn split_first(self) -> Option<(Node, Set)>
+        ensures { MatchOption result (members (num self) ≡ []) (λ p. members (num self) ≡ p.0.0 ∷ members (num p.1)) }
+    {
+        let k = self.smallest()?;
+        Some((k, self.minus(Set::empty().with(k))))
+    }
+
+    // The members in turn, for a loop over them.
+    #[tactic(auto, unfolding(crate::specs::Words::to_come))]
+    pub fn members(self) -> InTurn
+        ensures { to_come result ≡ members (num self) }
+    {
+        InTurn { left: self }
+    }
+}
+
+// A walk over the members of a set, ascending: those that are left are still to come.
+#[derive(Drop)]
+pub struct InTurn {
+    pub left: Set,
+}
+
+impl Iterator for InTurn {
+    ghost use Rattle.std.specs.Iterator.{YieldsFirstBy, item_count};
+
+    type Item = Node;
+
+    ghost next_gives = { YieldsFirstBy (λ k. k.0) to_come };
+
+    ghost remaining = { item_count to_come };
+
+    #[tactic(auto, unfolding(crate::specs::Words::to_come))]
+    fn next(&mut self) -> Option<Node> {
+        let (k, others) = self.left.split_first()?;
+        self.left = others;
+        Some(k)
     }
 }

@@ -8,6 +8,7 @@ use native.Mathlib.Nat.{le_trans}
 use native.Mathlib.Omega.{arith}
 use lib.Dec.{leb, eqb}
 use borrow.Author.Tests.{leb-true, le-leb, lt-leb, ltb-false, eqb-true, eqb-false, eq-eqb, not-false}
+use Rattle.std.specs.Prelude.{Ok}
 use Rattle.lemmas.proofs.Cases.{of_true, and_rest}
 use Rattle.lemmas.proofs.Tests.{and_left, and_right, or_left_false, not_both, not_true_false}
 use Rattle.lemmas.proofs.Any.{any_some, some_any}
@@ -18,7 +19,6 @@ use Rattle.nodes.proofs.Inside.{inside_of, inside_in, inside_member}
 use Rattle.nodes.proofs.Members.{none_or_some}
 use Rattle.nodes.proofs.Size.{size_mono, size_empty}
 use Rattle.waits.specs.declared.rows.Row.{Row}
-use Rattle.waits.specs.declared.numbers.Checked.TheVariants.{Accepted}
 use Rattle.waits.specs.Waits.{Lawful}
 use Rattle.waits.specs.Rows.{row_at, sets_of, out_of, lies_in, holds_of, waits_of}
 use Rattle.waits.specs.Numbers.{strange_kind, strange_member, wrong_threshold, extra_set, nested, bad_sets, check_of}
@@ -94,7 +94,7 @@ module _ (n k : ℕ) (r : Row) (ok : Fine n k r) where
   met_by_all = ⊎_elim (λ (e : r.kind ≡ 0). holds_0 r (out_of r) e) (λ s. ⊎_elim count_met sets_met s) kinds
 
 -- Theorem: rows that are accepted give a lawful graph of waits.
-pub accepted_lawful : (n : ℕ) (rows : List ℕ) → check_of n rows ≡ Accepted → Lawful (waits_of n rows)
+pub accepted_lawful : (n : ℕ) (rows : List ℕ) → check_of n rows ≡ Ok tt → Lawful (waits_of n rows)
 accepted_lawful n rows ok = record {
   closed = λ i j h o. out_below n i (row_at rows i) (accepted_row n rows ok i h) j o;
   monotone = λ i g g' h s e. holds_more (row_at rows i) g g' (λ j o m. inside_member g g' j s m) e;
@@ -104,5 +104,5 @@ accepted_lawful n rows ok = record {
 }
 
 -- Theorem: and in it each condition holds when all that the node waits on have granted.
-pub accepted_met : (n : ℕ) (rows : List ℕ) → check_of n rows ≡ Accepted → (i : ℕ) → i < n → (waits_of n rows).holds i ((waits_of n rows).out i) ≡ true
+pub accepted_met : (n : ℕ) (rows : List ℕ) → check_of n rows ≡ Ok tt → (i : ℕ) → i < n → (waits_of n rows).holds i ((waits_of n rows).out i) ≡ true
 accepted_met n rows ok i h = met_by_all n i (row_at rows i) (accepted_row n rows ok i h)

@@ -7,10 +7,10 @@ use native.Mathlib.Omega.{arith}
 use lib.ListN.{length}
 use lib.Dec.{ltb}
 use borrow.Author.Tests.{ltb-true}
+use Rattle.std.specs.Prelude.{Err}
 use Rattle.lemmas.proofs.Tests.{and_left, and_right, or_left_false}
 use Rattle.nodes.specs.Words.{places}
 use Rattle.waits.specs.declared.numbers.Refusal.{Refusal}
-use Rattle.waits.specs.declared.numbers.Checked.TheVariants.{Refused}
 use Rattle.waits.specs.declared.rows.Row.{Row}
 use Rattle.waits.specs.Rows.{row_at}
 use Rattle.waits.specs.Numbers.{Small, Line, line, strange_count, wrong_count, many_edges, row_lines, rows_lines, first_said, check_of}
@@ -37,15 +37,15 @@ small_append [] ms p q = q
 small_append (l ∷ ls) ms p q = (p.0, small_append ls ms p.1 q)
 
 -- what the first line that says so gives; a line is reached only if those before it are silent
-pub first_small : (l : Line) (ls : List Line) (r : Refusal) → SmallLine l → (l.says ≡ false → first_said ls ≡ Refused r → Small r)
-    → first_said (l ∷ ls) ≡ Refused r → Small r
+pub first_small : (l : Line) (ls : List Line) (r : Refusal) → SmallLine l → (l.says ≡ false → first_said ls ≡ Err r → Small r)
+    → first_said (l ∷ ls) ≡ Err r → Small r
 first_small l ls r p q = go l.says refl
   where
-    go : (b : Bool) → l.says ≡ b → cond b (Refused l.gives) (first_said ls) ≡ Refused r → Small r
+    go : (b : Bool) → l.says ≡ b → cond b (Err l.gives) (first_said ls) ≡ Err r → Small r
     go true e h = let same : l.gives ≡ r = cc h in subst Small same p
     go false e h = q e h
 
-pub lines_small : (ls : List Line) (r : Refusal) → SmallLines ls → first_said ls ≡ Refused r → Small r
+pub lines_small : (ls : List Line) (r : Refusal) → SmallLines ls → first_said ls ≡ Err r → Small r
 lines_small [] r p h = absurd (refused_not_accepted (sym h))
 lines_small (l ∷ ls) r p h = first_small l ls r p.0 (λ _. lines_small ls r p.1) h
 
@@ -58,7 +58,7 @@ rows_small n rows k zero h = tt
 rows_small n rows k (suc m) h =
     small_append (row_lines n k (row_at rows k)) (rows_lines n rows (suc k) m) (row_small n k (row_at rows k) (omega (arith, h))) (rows_small n rows (suc k) m (omega (arith, h)))
 
-pub counted : (n numbers : ℕ) (ls : List Line) (r : Refusal) → (n ≤ places → SmallLines ls) → first_said (line 1 0 (wrong_count n numbers) ∷ ls) ≡ Refused r → Small r
+pub counted : (n numbers : ℕ) (ls : List Line) (r : Refusal) → (n ≤ places → SmallLines ls) → first_said (line 1 0 (wrong_count n numbers) ∷ ls) ≡ Err r → Small r
 unfolding wrong_count
 counted n numbers ls r p =
     first_small (line 1 0 (wrong_count n numbers)) ls r (alone 1 refl) (λ e. lines_small ls r (p (count_fits n (or_left_false (strange_count n) _ e))))
@@ -68,6 +68,6 @@ module _ (n : ℕ) (rows : List ℕ) where
   pub graph_rest : n ≤ places → SmallLines (rows_lines n rows 0 n ++ line 8 0 (many_edges n rows) ∷ [])
   graph_rest h = small_append (rows_lines n rows 0 n) (line 8 0 (many_edges n rows) ∷ []) (rows_small n rows 0 n (omega (arith, h))) (alone 8 refl, tt)
 
-  pub check_small : (r : Refusal) → check_of n rows ≡ Refused r → Small r
+  pub check_small : (r : Refusal) → check_of n rows ≡ Err r → Small r
   unfolding check_of
   check_small r = counted n (length rows) (rows_lines n rows 0 n ++ line 8 0 (many_edges n rows) ∷ []) r graph_rest

@@ -11,60 +11,59 @@ use Prim.Native.Nat.{ℕ, zero, suc, ◌+◌, ◌≤◌, ◌<◌}
 use native.Mathlib.Nat.{eq-or-lt_of_le}
 use native.Mathlib.Omega.{arith}
 use lib.ListN.{length}
+use Rattle.std.specs.Prelude.{Result, Ok, Err}
 use Rattle.waits.specs.declared.rows.Row.{Row}
 use Rattle.waits.specs.declared.numbers.Refusal.{Refusal}
-use Rattle.waits.specs.declared.numbers.Checked.{Checked}
-use Rattle.waits.specs.declared.numbers.Checked.TheVariants.{Accepted, Refused}
 use Rattle.waits.specs.Rows.{row_at, Shaped}
 use Rattle.waits.specs.Numbers.{Line, line, wrong_count, strange_kind, strange_member, waits_on_itself, wrong_threshold, extra_set, bad_sets, many_edges, row_lines, rows_lines, graph_lines, first_said, check_of, Silent, Gives}
 use Rattle.waits.proofs.Cases.{right_count}
 
 -- ---- one list of lines after another
-abbrev pub or_else : Checked → Checked → Checked
-or_else Accepted b = b
-or_else (Refused r) b = Refused r
+abbrev pub or_else : Result Unit Refusal → Result Unit Refusal → Result Unit Refusal
+or_else (Ok tt) b = b
+or_else (Err r) b = Err r
 
 pub said_append : (ls ms : List Line) → first_said (ls ++ ms) ≡ or_else (first_said ls) (first_said ms)
 said_append [] ms = refl
 said_append (l ∷ ls) ms = go l.says (said_append ls ms)
   where
     go : (b : Bool) → first_said (ls ++ ms) ≡ or_else (first_said ls) (first_said ms)
-        → cond b (Refused l.gives) (first_said (ls ++ ms)) ≡ or_else (cond b (Refused l.gives) (first_said ls)) (first_said ms)
+        → cond b (Err l.gives) (first_said (ls ++ ms)) ≡ or_else (cond b (Err l.gives) (first_said ls)) (first_said ms)
     go true ih = refl
     go false ih = ih
 
 -- ---- accepted exactly if no line says so
-pub refused_not_accepted : {r : Refusal} → Refused r ≡ Accepted → ⊥
+pub refused_not_accepted : {r : Refusal} → ◌≡◌ {A = Result Unit Refusal} (Err r) (Ok tt) → ⊥
 refused_not_accepted e = let z : ◌≡◌ {A = ℕ} 0 1 = cc e in omega arith
 
-pub silent_accepted : (ls : List Line) → Silent ls → first_said ls ≡ Accepted
+pub silent_accepted : (ls : List Line) → Silent ls → first_said ls ≡ Ok tt
 silent_accepted [] h = refl
 silent_accepted (l ∷ ls) h =
-    ap (λ (b : Bool). cond b (Refused l.gives) (first_said ls)) (h l (here refl))
+    ap (λ (b : Bool). cond b (Err l.gives) (first_said ls)) (h l (here refl))
     ∙ silent_accepted ls (λ m i. h m (there i))
 
 silent_cons : (l : Line) (ls : List Line) → l.says ≡ false → Silent ls → Silent (l ∷ ls)
 silent_cons l ls e h m (here p) = ap (λ (x : Line). x.says) p ∙ e
 silent_cons l ls e h m (there i) = h m i
 
-pub accepted_silent : (ls : List Line) → first_said ls ≡ Accepted → Silent ls
+pub accepted_silent : (ls : List Line) → first_said ls ≡ Ok tt → Silent ls
 accepted_silent [] e = λ m i. elim i [ ]
 accepted_silent (l ∷ ls) e = go l.says refl e (accepted_silent ls)
   where
-    go : (b : Bool) → l.says ≡ b → cond b (Refused l.gives) (first_said ls) ≡ Accepted → (first_said ls ≡ Accepted → Silent ls) → Silent (l ∷ ls)
+    go : (b : Bool) → l.says ≡ b → cond b (Err l.gives) (first_said ls) ≡ Ok tt → (first_said ls ≡ Ok tt → Silent ls) → Silent (l ∷ ls)
     go true q e ih = absurd (refused_not_accepted e)
     go false q e ih = silent_cons l ls q (ih e)
 
-pub check_accepted : (n : ℕ) (rows : List ℕ) → (check_of n rows ≡ Accepted) ↔ Silent (graph_lines n rows)
+pub check_accepted : (n : ℕ) (rows : List ℕ) → (check_of n rows ≡ Ok tt) ↔ Silent (graph_lines n rows)
 unfolding check_of
 check_accepted n rows = (accepted_silent (graph_lines n rows), silent_accepted (graph_lines n rows))
 
 -- ---- refused exactly with the first line that says so
-said_gives : (ls : List Line) (r : Refusal) → first_said ls ≡ Refused r → Gives ls r
+said_gives : (ls : List Line) (r : Refusal) → first_said ls ≡ Err r → Gives ls r
 said_gives [] r e = absurd (refused_not_accepted (sym e))
 said_gives (l ∷ ls) r e = go l.says refl e (said_gives ls r)
   where
-    go : (b : Bool) → l.says ≡ b → cond b (Refused l.gives) (first_said ls) ≡ Refused r → (first_said ls ≡ Refused r → Gives ls r) → Gives (l ∷ ls) r
+    go : (b : Bool) → l.says ≡ b → cond b (Err l.gives) (first_said ls) ≡ Err r → (first_said ls ≡ Err r → Gives ls r) → Gives (l ∷ ls) r
     go true q e ih = record { earlier = []; this = l; rest = ls; order = refl; refusal = cc e; speaks = q; silent = λ m i. elim i [ ] }
     go false q e ih =
         let g = ih e in
@@ -78,17 +77,17 @@ said_gives (l ∷ ls) r e = go l.says refl e (said_gives ls r)
           silent = silent_cons l g.earlier q g.silent;
         }
 
-gives_said : (ls : List Line) (r : Refusal) → Gives ls r → first_said ls ≡ Refused r
+gives_said : (ls : List Line) (r : Refusal) → Gives ls r → first_said ls ≡ Err r
 gives_said ls r g =
     ap first_said g.order ∙ said_append g.earlier (g.this ∷ g.rest)
-    ∙ ap (λ (x : Checked). or_else x (first_said (g.this ∷ g.rest))) (silent_accepted g.earlier g.silent)
-    ∙ ap (λ (b : Bool). cond b (Refused g.this.gives) (first_said g.rest)) g.speaks
-    ∙ ap Refused g.refusal
+    ∙ ap (λ (x : Result Unit Refusal). or_else x (first_said (g.this ∷ g.rest))) (silent_accepted g.earlier g.silent)
+    ∙ ap (λ (b : Bool). cond b (Err g.this.gives) (first_said g.rest)) g.speaks
+    ∙ ap Err g.refusal
 
-pub refused_iff : (ls : List Line) (r : Refusal) → (first_said ls ≡ Refused r) ↔ Gives ls r
+pub refused_iff : (ls : List Line) (r : Refusal) → (first_said ls ≡ Err r) ↔ Gives ls r
 refused_iff ls r = (said_gives ls r, gives_said ls r)
 
-pub check_refused : (n : ℕ) (rows : List ℕ) (r : Refusal) → (check_of n rows ≡ Refused r) ↔ Gives (graph_lines n rows) r
+pub check_refused : (n : ℕ) (rows : List ℕ) (r : Refusal) → (check_of n rows ≡ Err r) ↔ Gives (graph_lines n rows) r
 unfolding check_of
 check_refused n rows r = refused_iff (graph_lines n rows) r
 
@@ -121,7 +120,7 @@ row_of n rows (suc m) j k l a b i =
     (λ (q : j < k). Memᴰ.append_right (row_lines n j (row_at rows j)) (ih q (omega arith) i))
     (eq-or-lt_of_le a)
 
-module _ (n : ℕ) (rows : List ℕ) (ok : check_of n rows ≡ Accepted) where
+module _ (n : ℕ) (rows : List ℕ) (ok : check_of n rows ≡ Ok tt) where
   pub accepted_count : wrong_count n (length rows) ≡ false
   accepted_count = (check_accepted n rows).0 ok (line 1 0 (wrong_count n (length rows))) (here refl)
 

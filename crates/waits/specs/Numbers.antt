@@ -1,14 +1,12 @@
 -- When rows are refused: the numbers 1 to 8, each with the line that the paper's table has for it, and their order.
 -- Assumes nothing.
-use Rattle.std.specs.Prelude.{◌≡◌, Bool, true, false, cond, not, ◌&&◌, ◌||◌, ℕ, zero, suc, ◌*◌, ◌≤◌, ◌<◌, leb, ltb, eqb, length}
+use Rattle.std.specs.Prelude.{◌≡◌, Bool, true, false, cond, not, ◌&&◌, ◌||◌, ℕ, zero, suc, ◌*◌, ◌≤◌, ◌<◌, leb, ltb, eqb, length, Result, Ok, Err}
 use mathlib.Core.List.{List, [], ◌∷◌, ◌++◌, Memᴰ}
 use Rattle.lemmas.specs.Lists.{any_of}
 use Rattle.nodes.specs.Sets.{has, below, inside, size}
 use Rattle.nodes.specs.Words.{places, num}
 use Rattle.waits.specs.declared.rows.Row.{Row}
 use Rattle.waits.specs.declared.numbers.Refusal.{Refusal}
-use Rattle.waits.specs.declared.numbers.Checked.{Checked}
-use Rattle.waits.specs.declared.numbers.Checked.TheVariants.{Accepted, Refused}
 use Rattle.waits.specs.Waits.{edges}
 use Rattle.waits.specs.Rows.{row_size, row_at, sets_of, later_of, out_of, lies_in, waits_of}
 
@@ -92,15 +90,15 @@ abbrev pub graph_lines : ℕ → List ℕ → List Line
 graph_lines n rows = line 1 0 (wrong_count n (length rows)) ∷ rows_lines n rows 0 n ++ line 8 0 (many_edges n rows) ∷ []
 
 -- the first line that says so; accepted if none does
-abbrev pub first_said : List Line → Checked
-first_said [] = Accepted
-first_said (l ∷ ls) = cond l.says (Refused l.gives) (first_said ls)
+abbrev pub first_said : List Line → Result Unit Refusal
+first_said [] = Ok tt
+first_said (l ∷ ls) = cond l.says (Err l.gives) (first_said ls)
 
 -- what the check of one row answers, and that of a graph
-unfoldable pub check_row_of : ℕ → ℕ → Row → Checked
+unfoldable pub check_row_of : ℕ → ℕ → Row → Result Unit Refusal
 check_row_of n k r = first_said (row_lines n k r)
 
-unfoldable pub check_of : ℕ → List ℕ → Checked
+unfoldable pub check_of : ℕ → List ℕ → Result Unit Refusal
 check_of n rows = first_said (graph_lines n rows)
 
 -- no line says so

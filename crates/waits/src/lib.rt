@@ -4,5 +4,5 @@
 mod numbers;
 mod rows;
 
-pub use numbers::{Checked, EDGES, Refusal, check, check_row, refused, strange_count};
+pub use numbers::{EDGES, Refusal, check, check_row, refused, strange_count};
 pub use rows::{ROW, Row, edges, holds, in_of, out_of, put_row, row_at};

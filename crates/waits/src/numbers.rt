@@ -1,5 +1,5 @@
 // When rows are refused: the numbers 1 to 8.
-ghost use Rattle.std.specs.Prelude.{◌≡◌, ◌||◌, ◌≤◌};
+ghost use Rattle.std.specs.Prelude.{◌≡◌, ◌||◌, ◌≤◌, Err};
 ghost use Rattle.nodes.specs.Words.{num, places};
 ghost use Rattle.waits.specs.Rows.{sets_of, lies_in};
 ghost use Rattle.waits.specs.Numbers.{strange_count, wrong_count, wrong_threshold, extra_set, nested, bad_sets, check_row_of, check_of};
@@ -11,67 +11,50 @@ use nodes::{Node, PLACES, Set};
 pub const EDGES: u64 = 512;
 
 // A refusal's number, and its row: 0 for a number that is not of a row.
-#[derive(Clone, Copy)]
+#[derive(Clone, Copy, Debug, PartialEq, Eq)]
 pub struct Refusal {
     pub number: u64,
     pub row: Node,
 }
 
-#[derive(Clone, Copy)]
-pub enum Checked {
-    Accepted,
-    Refused(Refusal),
-}
-
-pub fn refused(number: u64, row: Node) -> Checked
-    ensures { result ≡ Checked.Refused (record { number = number; row = row }) }
+pub fn refused(number: u64, row: Node) -> Result<(), Refusal>
+    ensures { result ≡ Err (record { number = number; row = row }) }
 {
-    Checked::Refused(Refusal {
-        number: number,
-        row: row,
-    })
+    Err(Refusal { number, row })
 }
 
 // Whether no graph has this many nodes.
+#[tactic(auto, unfolding(crate::specs::Numbers::strange_count))]
 pub fn strange_count(nodes: usize) -> bool
     ensures { result ≡ strange_count nodes }
 {
-    if nodes == 0 {
-        return true;
-    }
-    PLACES < nodes
+    nodes == 0 || PLACES < nodes
 }
 
 // Number 1: the count of nodes, or of the numbers in their rows.
+#[tactic(auto, unfolding(crate::specs::Numbers::wrong_count), using(crate::proofs::Cases::count_fits))]
 fn wrong_count(nodes: usize, numbers: usize) -> bool
     ensures { result ≡ wrong_count nodes numbers }
 {
-    if strange_count(nodes) {
-        return true;
-    }
-    numbers != nodes * ROW
+    strange_count(nodes) || numbers != nodes * ROW
 }
 
 // Number 5.
+#[tactic(auto, unfolding(crate::specs::Numbers::wrong_threshold))]
 fn wrong_threshold(row: Row) -> bool
     ensures { result ≡ wrong_threshold row }
 {
-    let q = row.first;
     if row.kind != 1 {
         return row.threshold != 0;
     }
-    if row.threshold < 1 {
-        return true;
-    }
-    q.size() < row.threshold
+    row.threshold < 1 || row.first.size() < row.threshold
 }
 
 // Number 6.
 fn extra_set(row: Row) -> bool
     ensures { result ≡ extra_set row }
 {
-    let kind = row.kind;
-    match kind {
+    match row.kind {
         0 => !out_of(row).is_empty(),
         1 => !later(row).is_empty(),
         _ => false,
@@ -82,53 +65,28 @@ fn extra_set(row: Row) -> bool
 fn either(s: Set, t: Set) -> bool
     ensures { result ≡ (lies_in (num s) (num t) || lies_in (num t) (num s)) }
 {
-    if lies_in(s, t) {
-        return true;
-    }
-    lies_in(t, s)
+    lies_in(s, t) || lies_in(t, s)
 }
 
 // Whether one nonempty set lies inside another: each of the six pairs.
 fn has_nested(row: Row) -> bool
     ensures { result ≡ nested (sets_of row) }
 {
-    let a = row.first;
-    let b = row.second;
-    let c = row.third;
-    let d = row.fourth;
-    if either(a, b) {
-        return true;
-    }
-    if either(a, c) {
-        return true;
-    }
-    if either(a, d) {
-        return true;
-    }
-    if either(b, c) {
-        return true;
-    }
-    if either(b, d) {
-        return true;
-    }
-    either(c, d)
+    let (a, b, c, d) = (row.first, row.second, row.third, row.fourth);
+    either(a, b) || either(a, c) || either(a, d) || either(b, c) || either(b, d) || either(c, d)
 }
 
 // Number 7.
+#[tactic(auto, unfolding(crate::specs::Numbers::bad_sets))]
 fn bad_sets(row: Row) -> bool
     ensures { result ≡ bad_sets row }
 {
-    if row.kind != 2 {
-        return false;
-    }
-    if out_of(row).is_empty() {
-        return true;
-    }
-    has_nested(row)
+    row.kind == 2 && (out_of(row).is_empty() || has_nested(row))
 }
 
 // The first of 2 to 7 that the row of node k gets.
-pub fn check_row(nodes: usize, k: Node, row: Row) -> Checked
+#[tactic(auto, unfolding(crate::specs::Numbers::check_row_of, crate::specs::Numbers::strange_kind, crate::specs::Numbers::strange_member, crate::specs::Numbers::waits_on_itself))]
+pub fn check_row(nodes: usize, k: Node, row: Row) -> Result<(), Refusal>
     requires { nodes ≤ places }
     ensures { result ≡ check_row_of nodes k.0 row }
 {
@@ -152,27 +110,22 @@ pub fn check_row(nodes: usize, k: Node, row: Row) -> Checked
     if bad_sets(row) {
         return refused(7, k);
     }
-    Checked::Accepted
+    Ok(())
 }
 
 // The first number that the graph gets, with its row.
-pub fn check(nodes: usize, rows: &[u64]) -> Checked
+pub fn check(nodes: usize, rows: &[u64]) -> Result<(), Refusal>
     ensures { result ≡ check_of nodes rows.now }
 {
     if wrong_count(nodes, rows.len()) {
         return refused(1, Node(0));
     }
-    let mut k: usize = 0;
-    while k < nodes {
+    for k in 0..nodes {
         let row = row_at(rows, Node(k));
-        let checked = check_row(nodes, Node(k), row);
-        if let Checked::Refused(r) = checked {
-            return Checked::Refused(r);
-        }
-        k += 1;
+        check_row(nodes, Node(k), row)?;
     }
     if EDGES < edges(nodes, rows) {
         return refused(8, Node(0));
     }
-    Checked::Accepted
+    Ok(())
 }

@@ -13,7 +13,7 @@ use nodes::{Node, Set};
 pub const ROW: usize = 6;
 
 // What one node waits for.
-#[derive(Clone, Copy)]
+#[derive(Clone, Copy, Debug, PartialEq, Eq)]
 pub struct Row {
     pub kind: u64,
     pub threshold: u64,
@@ -45,75 +45,55 @@ pub fn put_row(rows: &mut [u64], k: Node, row: Row)
     ensures { rows.new ≡ sets rows.old (k.0 * row_size) (row_numbers row) }
 {
     let at = k.0 * ROW;
-    let a = row.first;
-    let b = row.second;
-    let c = row.third;
-    let d = row.fourth;
     rows[at] = row.kind;
     rows[at + 1] = row.threshold;
-    rows[at + 2] = a.0;
-    rows[at + 3] = b.0;
-    rows[at + 4] = c.0;
-    rows[at + 5] = d.0;
+    rows[at + 2] = row.first.0;
+    rows[at + 3] = row.second.0;
+    rows[at + 4] = row.third.0;
+    rows[at + 5] = row.fourth.0;
 }
 
 // The union of all sets but the first.
+#[tactic(auto, unfolding(crate::specs::Rows::later_of))]
 pub fn later(row: Row) -> Set
     ensures { num result ≡ later_of row }
 {
-    let b = row.second;
-    let c = row.third;
-    let d = row.fourth;
-    b.union(c.union(d))
+    row.second.union(row.third.union(row.fourth))
 }
 
 // OUT: the union of all sets.
+#[tactic(auto, unfolding(crate::specs::Rows::out_of))]
 pub fn out_of(row: Row) -> Set
     ensures { num result ≡ out_of row }
 {
-    let a = row.first;
-    a.union(later(row))
+    row.first.union(later(row))
 }
 
 // Whether q has a member and all its members are in g.
+#[tactic(auto, unfolding(crate::specs::Rows::lies_in))]
 pub fn lies_in(q: Set, g: Set) -> bool
     ensures { result ≡ lies_in (num q) (num g) }
 {
-    if q.is_empty() {
-        return false;
-    }
-    q.inside(g)
+    !q.is_empty() && q.inside(g)
 }
 
 // Whether all of at least one nonempty set have granted.
 fn some_lies_in(row: Row, g: Set) -> bool
     ensures { result ≡ any_of (λ q. lies_in q (num g)) (sets_of row) }
 {
-    let a = row.first;
-    let b = row.second;
-    let c = row.third;
-    let d = row.fourth;
-    if lies_in(a, g) {
-        return true;
-    }
-    if lies_in(b, g) {
-        return true;
-    }
-    if lies_in(c, g) {
-        return true;
-    }
-    lies_in(d, g)
+    lies_in(row.first, g)
+        || lies_in(row.second, g)
+        || lies_in(row.third, g)
+        || lies_in(row.fourth, g)
 }
 
 // Whether the condition holds when the nodes of g have granted.
 pub fn holds(row: Row, g: Set) -> bool
     ensures { result ≡ holds_of row (num g) }
 {
-    let kind = row.kind;
-    let q = row.first;
-    match kind {
+    match row.kind {
         0 => true,
-        1 => row.threshold <= q.meet(g).size(),
+        1 => row.threshold <= row.first.meet(g).size(),
         2 => some_lies_in(row, g),
         _ => false,
     }
@@ -125,13 +105,11 @@ pub fn in_of(nodes: usize, rows: &[u64], j: Node) -> Set
     ensures { num result ≡ in_of (waits_of nodes rows.now) j.0 }
 {
     let mut found = Set::empty();
-    let mut i: usize = 0;
-    while i < nodes {
+    for i in 0..nodes {
         let row = row_at(rows, Node(i));
         if out_of(row).has(j) {
             found = found.with(Node(i));
         }
-        i += 1;
     }
     found
 }
@@ -142,11 +120,9 @@ pub fn edges(nodes: usize, rows: &[u64]) -> u64
     ensures { result ≡ waits_edges (waits_of nodes rows.now) }
 {
     let mut count: u64 = 0;
-    let mut k: usize = 0;
-    while k < nodes {
+    for k in 0..nodes {
         let row = row_at(rows, Node(k));
         count += out_of(row).size();
-        k += 1;
     }
     count
 }

@@ -4,28 +4,16 @@ use native.Mathlib.Omega.{arith}
 use borrow.Author.Rules.{rules}
 use Rattle.nodes.specs.Sets.{size}
 use Rattle.waits.specs.Rows.{out_of, waits_of}
-use Rattle.waits.specs.Waits.{edges_to, edges}
+use Rattle.waits.specs.Waits.{edges}
 use Rattle.waits.proofs.Cases.{edges_none, edges_suc}
 use Rattle.waits.proofs.rows.edges.Goals as goal
 
 pub loop-k-init : goal.loop-k-init
-loop-k-init c = (search rules, sym (edges_none _), search rules)
-
-pub row_at-row-requires : goal.row_at-row-requires
-row_at-row-requires c = omega arith
-
-pub overflow_add-count : goal.overflow_add-count
-overflow_add-count c = omega arith
-
-pub overflow_add-k : goal.overflow_add-k
-overflow_add-k c = omega arith
-
-pub loop-k-smaller : goal.loop-k-smaller
-loop-k-smaller c = omega arith
+loop-k-init c = (sym (edges_none _), search rules)
 
 pub loop-k-preserved : goal.loop-k-preserved
-loop-k-preserved c = (omega arith, omega (arith, edges_suc (waits_of c.args.nodes c.args.rows.now) c.loop-k.k, ap size (c.out_of.ensures ∙ ap out_of c.row_at-row.ensures)), omega arith)
+loop-k-preserved c = (omega (arith, edges_suc (waits_of c.args.nodes c.args.rows.now) c.loop-k.k, ap size (c.out_of.ensures ∙ ap out_of c.row_at-row.ensures)), omega arith)
 
 pub returns : goal.returns
 unfolding edges
-returns c = let e : c.loop-k.k ≡ c.args.nodes = omega arith in c.loop-k.invariant.1 ∙ ap (edges_to (waits_of c.args.nodes c.args.rows.now)) e
+returns c = let e : c.loop-k.k ≡ c.args.nodes = omega arith in rw e at c.loop-k.invariant.0

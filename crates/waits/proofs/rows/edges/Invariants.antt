@@ -1,13 +1,10 @@
 -- `edges` meets its contract. The loop's invariant: the count is that of the nodes passed, at most 64 each. Assumes nothing.
 use mathlib.Core.Path.{◌≡◌}
-use Prim.Native.Nat.{◌≤◌, ◌-◌, ◌*◌}
+use Prim.Native.Nat.{◌≤◌, ◌*◌}
 use Rattle.nodes.specs.Words.{places}
 use Rattle.waits.specs.Rows.{waits_of}
 use Rattle.waits.specs.Waits.{edges_to}
 use Rattle.waits.proofs.rows.edges.Given as goal
 
 abbrev pub invariant-loop-k : goal.invariant-loop-k
-invariant-loop-k l = (l.k ≤ l.nodes) × (l.count ≡ edges_to (waits_of l.nodes l.rows) l.k) × (l.count ≤ l.k * places)
-
-abbrev pub decreases-loop-k : goal.decreases-loop-k
-decreases-loop-k l = l.nodes - l.k
+invariant-loop-k l = (l.count ≡ edges_to (waits_of l.nodes l.rows) l.k) × (l.count ≤ l.k * places)
