@@ -9,6 +9,7 @@ use Prim.Native.Nat.{ℕ, zero, suc, ◌+◌, ◌≤◌, ◌<◌}
 use native.Mathlib.Omega.{arith}
 use lib.Dec.{leb, eqb}
 use borrow.Author.Tests.{ltb-false, leb-true, eqb-true, not-false}
+use Rattle.std.specs.Prelude.{Ok}
 use Rattle.lemmas.proofs.Cases.{at_false, of_true}
 use Rattle.lemmas.proofs.Tests.{true_or_false, and_right}
 use Rattle.nodes.specs.Sets.{In, size}
@@ -17,7 +18,6 @@ use Rattle.nodes.proofs.Operations.{in_below}
 use Rattle.nodes.proofs.Inside.{inside_in, inside_lt}
 use Rattle.nodes.proofs.Size.{size_le}
 use Rattle.waits.specs.declared.rows.Row.{Row}
-use Rattle.waits.specs.declared.numbers.Checked.TheVariants.{Accepted}
 use Rattle.waits.specs.Rows.{row_at, sets_of, rows_at, rows_of}
 use Rattle.waits.specs.Numbers.{strange_kind, wrong_threshold, check_of}
 use Rattle.waits.proofs.Condition.{out_set}
@@ -47,7 +47,7 @@ module _ (n k : ℕ) (r : Row) (ok : Fine n k r) where
       (λ (e : eqb r.kind 1 ≡ false). let z : r.threshold ≡ 0 = eqb-true _ _ (not-false _ (at_false _ e refl ∙ ok.threshold)) in omega arith)
       (true_or_false (eqb r.kind 1))
 
-module _ (n : ℕ) (rows : List ℕ) (ok : check_of n rows ≡ Accepted) where
+module _ (n : ℕ) (rows : List ℕ) (ok : check_of n rows ≡ Ok tt) where
   row_fits : (k : ℕ) → k < n → RowFits k (row_at rows k)
   row_fits k h =
       let few : n ≤ places = (accepted_shaped n rows ok).0 in

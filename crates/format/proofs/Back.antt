@@ -10,11 +10,11 @@ use Prim.Native.Nat.{ℕ, suc, ◌+◌}
 use native.Mathlib.Omega.{arith}
 use lib.Dec.{eqb}
 use lib.ListN.{length}
+use Rattle.std.specs.Prelude.{Result, Ok, Err}
 use Rattle.lemmas.specs.Lists.{any_of}
 use Rattle.lemmas.proofs.Cases.{at_true}
 use Rattle.waits.specs.declared.rows.Row.{Row}
-use Rattle.waits.specs.declared.numbers.Checked.{Checked}
-use Rattle.waits.specs.declared.numbers.Checked.TheVariants.{Accepted, Refused as Checked-as-Refused}
+use Rattle.waits.specs.declared.numbers.Refusal.{Refusal}
 use Rattle.waits.specs.Rows.{flat, rows_of}
 use Rattle.waits.specs.Numbers.{check_of}
 use Rattle.waits.proofs.Flat.{flat_length, flat_rows, rows_flat}
@@ -40,7 +40,7 @@ rows_read k [] h = refl
 rows_read k (r ∷ rs) h = ap₂ (row_then (k + 2)) (row_read k r h.0) (rows_read (suc k) rs h.1)
 
 -- Theorem: what is written of an accepted graph is read as that graph.
-read_written : (n : ℕ) (rows : List ℕ) → check_of n rows ≡ Accepted → read_of (file_of n rows) ≡ Graph n rows
+read_written : (n : ℕ) (rows : List ℕ) → check_of n rows ≡ Ok tt → read_of (file_of n rows) ≡ Graph n rows
 unfolding read_of meant_by file_of no_digit is_digit
 read_written n rows ok =
     let rs = rows_of n rows in
@@ -53,9 +53,9 @@ read_written n rows ok =
     ∙ ap (judged n rows) ok
 
 -- ---- and back
-judged_back : (m : ℕ) (xs : List ℕ) (c : Checked) (n : ℕ) (rows : List ℕ) → judged m xs c ≡ Graph n rows → (m ≡ n) × (xs ≡ rows)
-judged_back m xs (Checked-as-Refused r) n rows e = absurd (let z : ◌≡◌ {A = ℕ} 0 1 = cc in omega arith)
-judged_back m xs Accepted n rows e = (cc, cc)
+judged_back : (m : ℕ) (xs : List ℕ) (c : Result Unit Refusal) (n : ℕ) (rows : List ℕ) → judged m xs c ≡ Graph n rows → (m ≡ n) × (xs ≡ rows)
+judged_back m xs (Err r) n rows e = absurd (let z : ◌≡◌ {A = ℕ} 0 1 = cc in omega arith)
+judged_back m xs (Ok tt) n rows e = (cc, cc)
 
 said_back : (m : Meant) (n : ℕ) (rows : List ℕ) → said_of m ≡ Graph n rows → (rs : List Row) × (m ≡ Rows rs) × (length rs ≡ n) × (flat rs ≡ rows)
 said_back (Broken line) n rows e = absurd (let z : ◌≡◌ {A = ℕ} 0 1 = cc in omega arith)

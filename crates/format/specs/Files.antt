@@ -1,12 +1,10 @@
 -- What a file of waits says: a row for each node under a header, or which line is no such thing, or why the graph is refused.
 -- Assumes nothing.
-use Rattle.std.specs.Prelude.{Bool, cond, ◌&&◌, List, [], ◌∷◌, ℕ, suc, ◌+◌, eqb, length}
+use Rattle.std.specs.Prelude.{Bool, cond, ◌&&◌, List, [], ◌∷◌, ℕ, suc, ◌+◌, eqb, length, Result, Ok, Err}
 use Rattle.std.proofs.Math.Option.{Option, none, some}
 use Rattle.nodes.specs.Words.{as_set}
 use Rattle.waits.specs.declared.rows.Row.{Row}
 use Rattle.waits.specs.declared.numbers.Refusal.{Refusal}
-use Rattle.waits.specs.declared.numbers.Checked.{Checked}
-use Rattle.waits.specs.declared.numbers.Checked.TheVariants.{Accepted, Refused as Checked-as-Refused}
 use Rattle.waits.specs.Rows.{flat}
 use Rattle.waits.specs.Numbers.{check_of}
 use Rattle.text.specs.Words.{word}
@@ -85,9 +83,9 @@ pub data Said : Type 0 where
   Refused : Refusal → Said
   Graph : (nodes : ℕ) → (rows : List ℕ) → Said
 
-abbrev pub judged : (nodes : ℕ) → (rows : List ℕ) → Checked → Said
-judged n rows (Checked-as-Refused r) = Refused r
-judged n rows Accepted = Graph n rows
+abbrev pub judged : (nodes : ℕ) → (rows : List ℕ) → Result Unit Refusal → Said
+judged n rows (Err r) = Refused r
+judged n rows (Ok tt) = Graph n rows
 
 -- every line is judged before any number of the graph is given
 abbrev pub said_of : Meant → Said

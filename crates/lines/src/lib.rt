@@ -2,113 +2,104 @@
 #![tactic(auto)]
 
 ghost use Rattle.std.specs.Prelude.{◌≡◌, ◌≤◌, length, take};
-ghost use Rattle.text.specs.Text.{text, write};
+ghost use Rattle.text.specs.Text.{Wrote};
 ghost use Rattle.lines.specs.Lines.{field as field_of, name_of, answer_line, answer_lines, kind_name, message_line, refused_line, no_script_line};
 
-use text::{bytes, number, put};
+use text::Text;
 
 // An answer is coded as sent * CODES + code.
 const CODES: u64 = 65536;
 
 // A number after a space.
-fn field(room: &mut [u8], at: usize, n: u64) -> usize
-    ensures { text room.new result ≡ write (text room.old at) (field_of n) }
+fn field(out: &mut Text, n: u64)
+    ensures { Wrote out.old out.new (field_of n) }
 {
-    let end = put(room, at, b' ');
-    number(room, end, n)
+    out.put(b' ');
+    out.number(n);
 }
 
 // An answer code's name.
-fn name(room: &mut [u8], at: usize, code: u64) -> usize
-    ensures { text room.new result ≡ write (text room.old at) (name_of code) }
+#[tactic(auto, unfolding(crate::specs::Lines::name_of, text::specs::Words::word))]
+fn name(out: &mut Text, code: u64)
+    ensures { Wrote out.old out.new (name_of code) }
 {
     match code {
-        100 => bytes(room, at, b"old"),
-        101 => bytes(room, at, b"stray"),
-        102 => bytes(room, at, b"repeat"),
-        110 => bytes(room, at, b"taken"),
-        111 => bytes(room, at, b"taken deadlocked"),
-        112 => bytes(room, at, b"taken not-deadlocked"),
-        120 => bytes(room, at, b"opened"),
-        121 => bytes(room, at, b"opened deadlocked"),
-        122 => bytes(room, at, b"opened not-deadlocked"),
+        100 => out.bytes(b"old"),
+        101 => out.bytes(b"stray"),
+        102 => out.bytes(b"repeat"),
+        110 => out.bytes(b"taken"),
+        111 => out.bytes(b"taken deadlocked"),
+        112 => out.bytes(b"taken not-deadlocked"),
+        120 => out.bytes(b"opened"),
+        121 => out.bytes(b"opened deadlocked"),
+        122 => out.bytes(b"opened not-deadlocked"),
         _ => {
-            let end = bytes(room, at, b"refused");
-            field(room, end, code)
+            out.bytes(b"refused");
+            field(out, code);
         }
     }
 }
 
 // The line of one answer.
-pub fn answer(room: &mut [u8], at: usize, x: u64) -> usize
-    ensures { text room.new result ≡ write (text room.old at) (answer_line x) }
+pub fn answer(out: &mut Text, x: u64)
+    ensures { Wrote out.old out.new (answer_line x) }
 {
-    let named = name(room, at, x % CODES);
-    let end = field(room, named, x / CODES);
-    put(room, end, b'\n')
+    name(out, x % CODES);
+    field(out, x / CODES);
+    out.put(b'\n');
 }
 
 // The lines of the first answers of a list.
-pub fn answers(room: &mut [u8], at: usize, list: &[u64], count: usize) -> usize
+pub fn answers(out: &mut Text, list: &[u64], count: usize)
     requires { count ≤ length list.now }
-    ensures { text room.new result ≡ write (text room.old at) (answer_lines (take count list.now)) }
+    ensures { Wrote out.old out.new (answer_lines (take count list.now)) }
 {
-    let mut end = at;
-    let mut i: usize = 0;
-    while i < count {
-        end = answer(room, end, list[i]);
-        i += 1;
+    for &x in &list[..count] {
+        answer(out, x);
     }
-    end
 }
 
 // A message kind's name; past the kinds, where there is no message, the last.
-fn kind_name(room: &mut [u8], at: usize, kind: u64) -> usize
-    ensures { text room.new result ≡ write (text room.old at) (kind_name kind) }
+#[tactic(auto, unfolding(crate::specs::Lines::kind_name, text::specs::Words::word))]
+fn kind_name(kind: u64) -> &'static [u8]
+    ensures { result.now ≡ kind_name kind }
 {
     match kind {
-        0 => bytes(room, at, b"NOTIFY"),
-        1 => bytes(room, at, b"GRANT"),
-        2 => bytes(room, at, b"ACK"),
-        _ => bytes(room, at, b"DONE"),
+        0 => b"NOTIFY",
+        1 => b"GRANT",
+        2 => b"ACK",
+        _ => b"DONE",
     }
 }
 
 // The line of message k of the list.
-pub fn message(
-    room: &mut [u8],
-    at: usize,
-    k: u64,
-    kind: u64,
-    from: u64,
-    to: u64,
-    round: u64,
-) -> usize
-    ensures { text room.new result ≡ write (text room.old at) (message_line k kind from to round) }
+pub fn message(out: &mut Text, k: u64, kind: u64, from: u64, to: u64, round: u64)
+    ensures { Wrote out.old out.new (message_line k kind from to round) }
 {
-    let mut end = bytes(room, at, b"message");
-    end = field(room, end, k);
-    end = put(room, end, b' ');
-    end = kind_name(room, end, kind);
-    end = field(room, end, from);
-    end = field(room, end, to);
-    end = field(room, end, round);
-    put(room, end, b'\n')
+    out.bytes(b"message");
+    field(out, k);
+    out.put(b' ');
+    out.bytes(kind_name(kind));
+    field(out, from);
+    field(out, to);
+    field(out, round);
+    out.put(b'\n');
 }
 
 // The line of a refusal as a whole.
-pub fn refused(room: &mut [u8], at: usize, n: u64, place: u64) -> usize
-    ensures { text room.new result ≡ write (text room.old at) (refused_line n place) }
+pub fn refused(out: &mut Text, n: u64, place: u64)
+    ensures { Wrote out.old out.new (refused_line n place) }
 {
-    let said = bytes(room, at, b"refused");
-    let numbered = field(room, said, n);
-    let end = field(room, numbered, place);
-    put(room, end, b'\n')
+    out.bytes(b"refused");
+    field(out, n);
+    field(out, place);
+    out.put(b'\n');
 }
 
 // The line where the input is no script.
-pub fn no_script(room: &mut [u8], at: usize) -> usize
-    ensures { text room.new result ≡ write (text room.old at) no_script_line }
+#[tactic(auto, unfolding(crate::specs::Lines::no_script_line, text::specs::Words::word))]
+pub fn no_script(out: &mut Text)
+    ensures { Wrote out.old out.new no_script_line }
 {
-    bytes(room, at, b"refused script\n")
+    out.bytes(b"refused script\n");
 }

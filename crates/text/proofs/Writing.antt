@@ -11,7 +11,9 @@ use lib.Dec.{ltb}
 use borrow.Author.Tests.{lt-ltb, le-ltb, ltb-true}
 use Rattle.lemmas.proofs.Cases.{at_true, at_false, both_branches}
 use Rattle.lemmas.proofs.Tests.{true_or_false}
-use Rattle.text.specs.Text.{Text, text, one, write}
+use Rattle.std.specs.Borrow.{MutBor}
+use Rattle.text.specs.declared.Text.{Text as Lent}
+use Rattle.text.specs.Text.{Text, text, one, write, held, Fresh, Wrote}
 
 -- ---- one byte
 pub one_placed : (places : List ℕ) (at b : ℕ) → at < length places → text (set places at b) (at + 1) ≡ write (text places at) (b ∷ [])
@@ -91,3 +93,42 @@ pub written_end : (lent bs : List ℕ) {places : List ℕ} {end : ℕ} → text 
 written_end lent bs e =
     let i = write_inside (text lent 0) bs (omega arith) in
     omega (arith, ap (λ (t : Text). t.end) e, ap (λ (t : Text). length t.places) e, write_length (text lent 0) bs)
+
+-- ---- the code's struct
+pub wrote_none : (a : Lent) → Wrote a a []
+unfolding write
+wrote_none a = record { same_room = refl; written = refl }
+
+pub wrote_as : {a b : Lent} {xs ys : List ℕ} → xs ≡ ys → Wrote a b xs → Wrote a b ys
+wrote_as e h = rw e at h
+
+-- one call after the other
+pub wrote_then : {a b c : Lent} {xs ys : List ℕ} → Wrote a b xs → Wrote b c ys → Wrote a c (xs ++ ys)
+wrote_then {xs = xs} {ys = ys} h k = record {
+  same_room = k.same_room ∙ h.same_room;
+  written = write_both _ xs ys h.written k.written;
+}
+
+-- who lent the bytes finds in them what was written
+pub given_back : {r : MutBor (List ℕ)} {a b : Lent} {left bs : List ℕ} → Fresh r a → Wrote a b bs → (r.ghost_name ≡ b.room.ghost_name → left ≡ b.room.now)
+    → text left b.end ≡ write (text r.now 0) bs
+given_back {b = b} {bs = bs} f h k =
+    ap (λ (l : List ℕ). text l b.end) (k (sym (h.same_room ∙ f.same_room))) ∙ h.written ∙ ap (λ (t : Text). write t bs) f.none_written
+
+-- ---- a loop: of all that is to be written, this is left
+pub record Left (before now : Lent) (rest all : List ℕ) : Type 0 where
+  pub same_room : now.room.ghost_name ≡ before.room.ghost_name
+  pub as_all : write (held now) rest ≡ write (held before) all
+
+pub left_all : (a : Lent) (all : List ℕ) → Left a a all all
+left_all a all = record { same_room = refl; as_all = refl }
+
+pub left_next : {a b c : Lent} {xs rest more all : List ℕ} → Left a b more all → Wrote b c xs → more ≡ xs ++ rest → Left a c rest all
+left_next {xs = xs} {rest = rest} h k e = record {
+  same_room = k.same_room ∙ h.same_room;
+  as_all = write_both _ xs rest k.written refl ∙ ap (write _) (sym e) ∙ h.as_all;
+}
+
+pub left_none : {a b : Lent} {rest all : List ℕ} → Left a b rest all → rest ≡ [] → Wrote a b all
+unfolding write
+left_none h e = record { same_room = h.same_room; written = sym (ap (write _) e) ∙ h.as_all }

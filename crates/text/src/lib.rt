@@ -1,43 +1,57 @@
 // Text written into lent bytes, clipped at their end: a byte, bytes, a number in decimal. Digits read are in their own file.
 #![tactic(auto)]
 
-ghost use Rattle.std.specs.Prelude.{◌≡◌, [], ◌∷◌};
+ghost use Rattle.std.specs.Prelude.{[], ◌∷◌};
 ghost use Rattle.text.specs.Words.{decimal};
-ghost use Rattle.text.specs.Text.{text, write};
+ghost use Rattle.text.specs.Text.{Fresh, Wrote};
 
 mod digits;
 
 pub use digits::grown;
 
-// Writes a byte at a place if there is one, and says where the next goes.
-pub fn put(room: &mut [u8], at: usize, byte: u8) -> usize
-    ensures { text room.new result ≡ write (text room.old at) (byte ∷ []) }
-{
-    if at < room.len() {
-        room[at] = byte;
-        return at + 1;
-    }
-    at
+// Lent bytes, and how many of them are written.
+#[derive(Drop)]
+pub struct Text<'a> {
+    pub room: &'a mut [u8],
+    pub end: usize,
 }
 
-// Writes bytes from a place on.
-pub fn bytes(room: &mut [u8], at: usize, b: &[u8]) -> usize
-    ensures { text room.new result ≡ write (text room.old at) b.now }
-{
-    let mut end = at;
-    for &byte in b {
-        end = put(room, end, byte);
+impl<'a> Text<'a> {
+    // Lent bytes of which none is written yet.
+    pub fn new(room: &'a mut [u8]) -> Text<'a>
+        ensures { Fresh room.entry result }
+    {
+        Text { room, end: 0 }
     }
-    end
-}
 
-// Writes a number in decimal: first the digits of its tenth, then its last digit.
-pub fn number(room: &mut [u8], at: usize, n: u64) -> usize
-    ensures { text room.new result ≡ write (text room.old at) (decimal n) }
-{
-    if n < 10 {
-        return put(room, at, 48 + n as u8);
+    // Writes a byte at the end, if that is a place.
+    pub fn put(&mut self, byte: u8)
+        ensures { Wrote self.old self.new (byte ∷ []) }
+    {
+        if self.end < self.room.len() {
+            self.room[self.end] = byte;
+            self.end += 1;
+        }
     }
-    let end = number(room, at, n / 10);
-    put(room, end, 48 + (n % 10) as u8)
+
+    // Writes bytes.
+    pub fn bytes(&mut self, b: &[u8])
+        ensures { Wrote self.old self.new b.now }
+    {
+        for &byte in b {
+            self.put(byte);
+        }
+    }
+
+    // Writes a number in decimal: first the digits of its tenth, then its last digit.
+    pub fn number(&mut self, n: u64)
+        ensures { Wrote self.old self.new (decimal n) }
+    {
+        if n < 10 {
+            self.put(48 + n as u8);
+            return;
+        }
+        self.number(n / 10);
+        self.put(48 + (n % 10) as u8);
+    }
 }
