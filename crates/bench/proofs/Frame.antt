@@ -7,7 +7,7 @@ use borrow.Author.Tests.{le-ltb}
 use Rattle.lemmas.proofs.Cases.{at_false}
 use Rattle.nodes.specs.Sets.{members_from, members}
 use Rattle.std.specs.Prelude.{Result}
-use Rattle.waits.specs.declared.numbers.Refusal.{Refusal}
+use Rattle.waits.specs.declared.refusals.Refusal.{Refusal}
 use Rattle.step.specs.declared.answers.Answer.{Answer}
 use Rattle.step.specs.Step.{still}
 use Rattle.step.specs.Letters.{letters_of}

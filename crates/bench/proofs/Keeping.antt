@@ -28,7 +28,7 @@ use Rattle.records.specs.Records.{State, in_round, strange_record}
 use Rattle.records.proofs.Higher.{not_ahead_itself, not_ahead_later, round_range, in_round_exists, in_round_not_ahead}
 use Rattle.records.proofs.Among.{Among, record_among, among_record}
 use Rattle.std.specs.Prelude.{Result, Ok}
-use Rattle.waits.specs.declared.numbers.Refusal.{Refusal}
+use Rattle.waits.specs.declared.refusals.Refusal.{Refusal}
 use Rattle.waits.specs.Rows.{waits_of}
 use Rattle.step.specs.declared.answers.Answer.{Answer}
 use Rattle.step.specs.Step.{Receivers, Outcome, still, seen_in, open_round, receive}

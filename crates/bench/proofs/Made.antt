@@ -26,7 +26,7 @@ use Rattle.records.proofs.Fits.{record_fits}
 use Rattle.records.proofs.Among.{record_among}
 use Rattle.std.specs.Prelude.{Result, Ok, Err}
 use Rattle.std.specs.Result.{is_err}
-use Rattle.waits.specs.declared.numbers.Refusal.{Refusal}
+use Rattle.waits.specs.declared.refusals.Refusal.{Refusal}
 use Rattle.waits.specs.Waits.{Waits}
 use Rattle.waits.specs.Rows.{waits_of, Shaped}
 use Rattle.waits.specs.Numbers.{check_of}

@@ -10,7 +10,7 @@ use lib.Seq.{sets, drop-cons}
 use borrow.Author.Tests.{le-ltb}
 use Rattle.lemmas.proofs.Cases.{at_true, at_false}
 use Rattle.std.specs.Prelude.{Result, Ok}
-use Rattle.waits.specs.declared.numbers.Refusal.{Refusal}
+use Rattle.waits.specs.declared.refusals.Refusal.{Refusal}
 use Rattle.waits.specs.Rows.{waits_of}
 use Rattle.step.specs.declared.answers.Answer.{Answer}
 use Rattle.step.specs.Answers.{code_of}

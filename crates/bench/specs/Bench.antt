@@ -1,6 +1,6 @@
 -- The state of a bench, as it stands in lent lists of numbers. Assumes nothing.
 use Rattle.std.specs.Prelude.{List, ℕ, ◌*◌, min, length, replicate, Result}
-use Rattle.waits.specs.declared.numbers.Refusal.{Refusal}
+use Rattle.waits.specs.declared.refusals.Refusal.{Refusal}
 use Rattle.step.specs.declared.answers.Answer.{Answer}
 use Rattle.lent.specs.Kept.{record_size}
 

@@ -1,7 +1,7 @@
 -- A list of steps: its steps taken singly, one after the other. Assumes nothing.
 use Rattle.std.specs.Prelude.{cond, List, [], ◌∷◌, ℕ, ltb, length, Result, Ok, Err}
 use Rattle.std.proofs.lemmas.List.Edits.{sets}
-use Rattle.waits.specs.declared.numbers.Refusal.{Refusal}
+use Rattle.waits.specs.declared.refusals.Refusal.{Refusal}
 use Rattle.lent.specs.Steps.{step_of, answer_number}
 use Rattle.bench.specs.Bench.{Bench, After, refusal}
 use Rattle.bench.specs.Strange.{strange_bench}

@@ -15,7 +15,7 @@ use Rattle.records.specs.declared.messages.Message.{Message}
 use Rattle.records.specs.Messages.{letter_of, strange_message}
 use Rattle.records.specs.Records.{State}
 use Rattle.records.specs.Rounds.{cannot_open}
-use Rattle.waits.specs.declared.numbers.Refusal.{Refusal}
+use Rattle.waits.specs.declared.refusals.Refusal.{Refusal}
 use Rattle.waits.specs.declared.numbers.Checked.{Checked}
 use Rattle.waits.specs.declared.numbers.Checked.TheVariants.{Accepted, Refused}
 use Rattle.waits.specs.Rows.{row_at, waits_of}

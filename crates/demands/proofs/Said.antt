@@ -12,7 +12,7 @@ use Rattle.nodes.specs.Sets.{no_node}
 use Rattle.records.specs.Rounds.{cannot_open}
 use Rattle.records.specs.Messages.{Letter}
 use Rattle.records.specs.Records.{State}
-use Rattle.waits.specs.declared.numbers.Refusal.{Refusal}
+use Rattle.waits.specs.declared.refusals.Refusal.{Refusal}
 use Rattle.waits.specs.declared.numbers.Checked.{Checked}
 use Rattle.waits.specs.declared.numbers.Checked.TheVariants.{Accepted, Refused}
 use Rattle.waits.specs.Waits.{Waits}

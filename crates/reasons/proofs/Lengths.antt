@@ -12,7 +12,7 @@ use borrow.Author.Tests.{ltb-false}
 use Rattle.lemmas.proofs.Cases.{both_branches}
 use Rattle.lemmas.proofs.Tests.{true_or_false}
 use Rattle.nodes.specs.Words.{places}
-use Rattle.waits.specs.declared.numbers.Refusal.{Refusal}
+use Rattle.waits.specs.declared.refusals.Refusal.{Refusal}
 use Rattle.text.specs.Words.{word, decimal}
 use Rattle.text.specs.Text.{text, write}
 use Rattle.text.proofs.Writing.{write_fits}

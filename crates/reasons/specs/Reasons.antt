@@ -2,7 +2,7 @@
 use Rattle.std.specs.Prelude.{cond, ◌&&◌, List, [], ◌∷◌, ◌++◌, ℕ, ◌-◌, leb, eqb, get_or}
 use Prim.Native.String.{String}
 use Rattle.nodes.specs.Words.{places}
-use Rattle.waits.specs.declared.numbers.Refusal.{Refusal}
+use Rattle.waits.specs.declared.refusals.Refusal.{Refusal}
 use Rattle.text.specs.Words.{word, decimal}
 use Rattle.format.specs.Files.{headings}
 use Rattle.format.specs.Files.Said.{Line, Refused, Graph}

@@ -13,7 +13,7 @@ use Rattle.nodes.specs.declared.Set.{Set}
 use Rattle.nodes.specs.Sets.{In, members}
 use Rattle.nodes.specs.Words.{places, num}
 use Rattle.nodes.proofs.Members.{members_in, members_ascending}
-use Rattle.waits.specs.declared.numbers.Refusal.{Refusal}
+use Rattle.waits.specs.declared.refusals.Refusal.{Refusal}
 use Rattle.waits.specs.declared.numbers.Checked.{Checked}
 use Rattle.waits.specs.declared.numbers.Checked.TheVariants.{Accepted, Refused as Checked-as-Refused}
 use Rattle.waits.specs.Deadlocked.{Deadlocked}
