@@ -5,7 +5,7 @@ ghost use Rattle.script.specs.Numbers.{blank as the_blank, place_after, EndSays,
 use text::grown;
 
 #[tactic(auto, unfolding(crate::specs::Numbers::blank))]
-pub fn blank(b: u8) -> bool
+fn blank(b: u8) -> bool
     ensures { result ≡ the_blank b }
 {
     matches!(b, b' ' | b'\t' | b'\n' | b'\r')
