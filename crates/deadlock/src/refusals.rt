@@ -39,24 +39,14 @@ pub fn check_node(nodes: usize, rows: &[u64], i: Node) -> Result<Graph, Refusal>
 fn strange_entry(nodes: usize, list: &[u8]) -> bool
     ensures { result ≡ strange_entry nodes list.now }
 {
-    for &entry in list {
-        if nodes <= named(entry).0 {
-            return true;
-        }
-    }
-    false
+    list.iter().any(|&entry| nodes <= named(entry).0)
 }
 
 // Whether each entry of a list is below the next; number 18 if not.
 fn ascends(list: &[u8]) -> bool
     ensures { result ≡ ascending list.now }
 {
-    for at in 1..list.len() {
-        if list[at] <= list[at - 1] {
-            return false;
-        }
-    }
-    true
+    list.is_sorted_by(|a, b| a < b)
 }
 
 // A question about a list for node i: the graph, 9, 14, then 18.

@@ -125,6 +125,7 @@ pub fn check(nodes: usize, rows: &[u64]) -> Result<(), Refusal>
 
 impl<'a> Graph<'a> {
     // The graph, or the first number that it gets.
+    #[tactic(auto, using(crate::proofs::Table::accepted_shaped))]
     pub fn checked(nodes: usize, rows: &'a [u64]) -> Result<Graph<'a>, Refusal>
         ensures { GraphSays (check_of nodes rows.now) nodes rows.now result }
     {
