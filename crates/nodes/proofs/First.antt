@@ -16,10 +16,11 @@ use Rattle.std.specs.Prelude.{Option, Some, None}
 use Rattle.lemmas.proofs.Ascending.{ascending_unique}
 use Rattle.lemmas.proofs.Once.{not_first}
 use Rattle.nodes.specs.declared.Node.{Node}
-use Rattle.nodes.specs.Sets.{single, with, minus, only, members, size}
+use Rattle.nodes.specs.Sets.{In, Inside, single, with, minus, only, members, size}
 use Rattle.nodes.specs.Words.{first_of}
 use Rattle.nodes.proofs.Bit.{in_lt}
 use Rattle.nodes.proofs.Operations.{with_empty, in_minus, bit_single_same, bit_single_other}
+use Rattle.nodes.proofs.Inside.{inside_in}
 use Rattle.nodes.proofs.Members.{from, from_step, from_none, members_from_lem, members_in, members_ascending}
 use Rattle.nodes.proofs.Size.{size_members}
 
@@ -90,3 +91,14 @@ module _ (s : ℕ) (k : Node) (first : Some k ≡ first_of (members s)) where
 
     pub first_less : size t < size s
     first_less = omega (arith, size_members s, ap length first_rest, size_members t)
+
+-- ---- as a walk gives it: the first of the members, and then those of another set
+module _ (s t k : ℕ) (e : members s ≡ k ∷ members t) where
+  pub walk_in : In k s
+  walk_in = (members_in s k).0 (rw e (here refl))
+
+  pub walk_inside : Inside t s
+  walk_inside = inside_in t s (λ j i. (members_in s j).0 (rw e (there ((members_in t j).1 i))))
+
+  pub walk_size : size s ≡ suc (size t)
+  walk_size = size_members s ∙ ap length e ∙ ap suc (sym (size_members t))

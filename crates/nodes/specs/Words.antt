@@ -2,6 +2,8 @@
 use Rattle.std.specs.Prelude.{List, [], ◌∷◌, ℕ, Option, Some, None}
 use Rattle.nodes.specs.declared.Node.{Node}
 use Rattle.nodes.specs.declared.Set.{Set}
+use Rattle.nodes.specs.declared.InTurn.{InTurn}
+use Rattle.nodes.specs.Sets.{members}
 
 -- how many places a set of the code has: the nodes 0 to places - 1
 abbrev pub places : ℕ
@@ -19,3 +21,7 @@ as_set n = record { 0 = n }
 abbrev pub first_of : List ℕ → Option Node
 first_of [] = None
 first_of (k ∷ l) = Some (record { 0 = k })
+
+-- the members that a walk over a set has still to give, ascending
+unfoldable pub to_come : InTurn → List ℕ
+to_come w = members (num w.left)

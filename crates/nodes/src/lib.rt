@@ -1,9 +1,9 @@
 // Nodes, rounds, and sets of nodes. Nothing outside this crate shifts or masks.
-#![tactic(auto)]
+#![tactic(auto, unfolding(crate::specs::Words::num, crate::specs::Words::to_come, crate::specs::Sets::bit, crate::specs::Sets::union, crate::specs::Sets::meet, crate::specs::Sets::minus, crate::specs::Sets::inside))]
 
-ghost use Rattle.std.specs.Prelude.{◌≡◌, ◌<◌, ◌≤◌, eqb};
+ghost use Rattle.std.specs.Prelude.{◌≡◌, ◌<◌, ◌≤◌, eqb, MatchOption, [], ◌∷◌};
 ghost use Rattle.nodes.specs.Sets.{bit, has, union, meet, minus, with, below, inside, members, size};
-ghost use Rattle.nodes.specs.Words.{places, num, first_of};
+ghost use Rattle.nodes.specs.Words.{places, num, first_of, to_come};
 
 // How many places a set has.
 pub const PLACES: usize = 64;
@@ -105,5 +105,42 @@ impl Set {
             return None;
         }
         Some(Node(u64::trailing_zeros(self.0) as usize))
+    }
+
+    // The smallest member and the set of the others, if there is a member.
+    fn split_first(self) -> Option<(Node, Set)>
+        ensures { MatchOption result (members (num self) ≡ []) (λ p. members (num self) ≡ p.0.0 ∷ members (num p.1)) }
+    {
+        let k = self.smallest()?;
+        Some((k, self.minus(Set::empty().with(k))))
+    }
+
+    // The members in turn, for a loop over them.
+    pub fn members(self) -> InTurn
+        ensures { to_come result ≡ members (num self) }
+    {
+        InTurn { left: self }
+    }
+}
+
+// A walk over the members of a set, ascending: those that are left are still to come.
+#[derive(Drop)]
+pub struct InTurn {
+    pub left: Set,
+}
+
+impl Iterator for InTurn {
+    ghost use Rattle.std.specs.Iterator.{YieldsFirstBy, item_count};
+
+    type Item = Node;
+
+    ghost next_gives = { YieldsFirstBy (λ k. k.0) to_come };
+
+    ghost remaining = { item_count to_come };
+
+    fn next(&mut self) -> Option<Node> {
+        let (k, others) = self.left.split_first()?;
+        self.left = others;
+        Some(k)
     }
 }
