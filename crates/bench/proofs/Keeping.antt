@@ -45,6 +45,7 @@ use Rattle.bench.specs.Steps.{refuse, join, arrive_at, step_on, take_step}
 use Rattle.bench.proofs.Ways.{Way, step_way}
 use Rattle.bench.proofs.Ways.Way.{refused, opened, arrived}
 use Rattle.bench.proofs.Sound.{Sound, good_sound, sound_good, shaped, room_le, record_there, sent_fine, out_among, ins_among}
+use Rattle.waits.specs.declared.refusals.Reason.TheVariants.{FullRoom}
 
 -- ---- what a node sends can be
 letter_fine : (n highest : ℕ) (m : Letter) → n ≤ places → m.from < n → m.to < n → no_round m.round ≡ false → ahead m.round highest ≡ false
@@ -138,7 +139,7 @@ module _ (n : ℕ) (rows : List ℕ) (b : Bench) (s : Sound n rows b) (highest i
       (any_weaker (λ x. strange_message_on n b.highest (message_of x)) p (take b.sent b.messages) (λ x e. sent_later n b.highest highest (message_of x) later e) s.listed)
       sends
 
-  joins : (t : Bool) → ltb (room b) (b.sent + length new) ≡ t → Sound n rows (cond t (refuse 12 b) (after next out.answer)).bench
+  joins : (t : Bool) → ltb (room b) (b.sent + length new) ≡ t → Sound n rows (cond t (refuse FullRoom b) (after next out.answer)).bench
   joins true e = s
   joins false e =
       let h : b.sent + length new ≤ room b = ltb-false (room b) (b.sent + length new) e in

@@ -1,5 +1,6 @@
 -- 13: when the state of a bench is refused. Assumes nothing.
-use Rattle.std.specs.Prelude.{◌≡◌, Bool, true, false, not, ◌||◌, List, ℕ, ◌*◌, eqb, ltb, length, take, Result, Ok, Err}
+use Rattle.std.specs.Prelude.{◌≡◌, Bool, false, not, ◌||◌, List, ℕ, ◌*◌, eqb, ltb, length, take, Result}
+use Rattle.std.specs.Result.{is_err}
 use Rattle.lemmas.specs.Lists.{any_of, any_below}
 use Rattle.records.specs.declared.messages.Message.{Message}
 use Rattle.records.specs.Rounds.{last_round, ahead}
@@ -13,8 +14,7 @@ use Rattle.bench.specs.Bench.{Bench, room}
 
 -- the graph isn't accepted
 abbrev pub is_refused : Result Unit Refusal → Bool
-is_refused (Ok t) = false
-is_refused (Err r) = true
+is_refused c = is_err c
 
 -- a record with something that doesn't exist, or with a round above the highest opened
 unfoldable pub strange_record_on : ℕ → ℕ → State → Bool

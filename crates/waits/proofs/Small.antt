@@ -13,20 +13,20 @@ use Rattle.nodes.specs.Words.{places}
 use Rattle.waits.specs.declared.refusals.Refusal.{Refusal}
 use Rattle.waits.specs.declared.rows.Row.{Row}
 use Rattle.waits.specs.Rows.{row_at}
-use Rattle.waits.specs.Numbers.{number_of, Small, Line, line, strange_count, wrong_count, many_edges, row_lines, rows_lines, first_said, check_of}
+use Rattle.waits.specs.Numbers.{reason_number, Small, Line, line, strange_count, wrong_count, many_edges, row_lines, rows_lines, first_said, check_of}
 use Rattle.waits.proofs.Cases.{count_fits}
 use Rattle.waits.proofs.Table.{refused_not_accepted}
 use Rattle.waits.specs.declared.refusals.Reason.{Reason}
 use Rattle.waits.specs.declared.refusals.Reason.TheVariants.{WrongCount, StrangeKind, StrangeMember, WaitsOnItself, WrongThreshold, ExtraSet, BadSets, ManyEdges}
 
 -- a number that a byte holds, of a row that one holds; of no row
-few : (why : Reason) (row : ℕ) → (ltb 0 (number_of why) && ltb (number_of why) 256) ≡ true → row < 256
-    → (1 ≤ number_of why) × (number_of why < 256) × (row < 256)
+few : (why : Reason) (row : ℕ) → (ltb 0 (reason_number why) && ltb (reason_number why) 256) ≡ true → row < 256
+    → (1 ≤ reason_number why) × (reason_number why < 256) × (row < 256)
 few why row e h =
-    let number = number_of why in
+    let number = reason_number why in
     (ltb-true 0 number (and_left (ltb 0 number) (ltb number 256) e), ltb-true number 256 (and_right (ltb 0 number) (ltb number 256) e), h)
 
-pub alone : (why : Reason) → (ltb 0 (number_of why) && ltb (number_of why) 256) ≡ true → (1 ≤ number_of why) × (number_of why < 256) × (0 < 256)
+pub alone : (why : Reason) → (ltb 0 (reason_number why) && ltb (reason_number why) 256) ≡ true → (1 ≤ reason_number why) × (reason_number why < 256) × (0 < 256)
 alone why e = few why 0 e (omega arith)
 
 -- a line whose refusal is small; all lines of a list

@@ -64,23 +64,23 @@ unfoldable pub many_edges : ℕ → List ℕ → Bool
 many_edges n rows = ltb most_edges (edges (waits_of n rows))
 
 -- the number of each line in the paper's table, by which it is known outside
-abbrev pub number_of : Reason → ℕ
-number_of WrongCount = 1
-number_of StrangeKind = 2
-number_of StrangeMember = 3
-number_of WaitsOnItself = 4
-number_of WrongThreshold = 5
-number_of ExtraSet = 6
-number_of BadSets = 7
-number_of ManyEdges = 8
-number_of NoNode = 9
-number_of CannotOpen = 10
-number_of NoStep = 11
-number_of FullRoom = 12
-number_of StrangeState = 13
-number_of StrangeEntry = 14
-number_of ShortRoom = 15
-number_of NotAscending = 18
+abbrev pub reason_number : Reason → ℕ
+reason_number WrongCount = 1
+reason_number StrangeKind = 2
+reason_number StrangeMember = 3
+reason_number WaitsOnItself = 4
+reason_number WrongThreshold = 5
+reason_number ExtraSet = 6
+reason_number BadSets = 7
+reason_number ManyEdges = 8
+reason_number NoNode = 9
+reason_number CannotOpen = 10
+reason_number NoStep = 11
+reason_number FullRoom = 12
+reason_number StrangeState = 13
+reason_number StrangeEntry = 14
+reason_number ShortRoom = 15
+reason_number NotAscending = 18
 
 -- A line of the table: its refusal, and whether it says that this one is given.
 pub record Line : Type 0 where
@@ -138,4 +138,4 @@ pub record Gives (ls : List Line) (r : Refusal) : Type 0 where
 
 -- a refusal whose number and row one byte each can hold, as those of the table can
 abbrev pub Small : Refusal → Type 0
-Small r = (1 ≤ number_of r.reason) × (number_of r.reason < 256) × (r.row.0 < 256)
+Small r = (1 ≤ reason_number r.reason) × (reason_number r.reason < 256) × (r.row.0 < 256)

@@ -1,6 +1,6 @@
 // What a refusal says: a line of the paper's table, and the row that it is about.
 ghost use Rattle.std.specs.Prelude.{◌≡◌, Err};
-ghost use Rattle.waits.specs.Numbers.{number_of};
+ghost use Rattle.waits.specs.Numbers.{reason_number};
 
 use nodes::Node;
 
@@ -28,7 +28,7 @@ pub enum Reason {
 impl Reason {
     // The number in the table, by which it is known outside.
     pub fn number(self) -> u64
-        ensures { result ≡ number_of self }
+        ensures { result ≡ reason_number self }
     {
         self as u64
     }
