@@ -1,7 +1,7 @@
 // What is said of every claim of a graph, and what a round from it comes to.
 use crate::parts::{bytes, checked};
 use crate::rounds::round;
-use crate::say::{members, number, refusal, text};
+use crate::say::{members, refusal};
 use deadlock::{Claim, Found, Report, Written};
 use nodes::{Node, PLACES};
 use std::io;
@@ -9,8 +9,8 @@ use std::io;
 fn claim(rt: &impl Print, nodes: usize, rows: &[u64], k: usize) -> io::Result<()> {
     let said = deadlock::deadlocked(nodes, rows, Node(k));
     match said {
-        Claim::Deadlocked => text(rt, b"deadlocked")?,
-        Claim::NotDeadlocked => text(rt, b"not deadlocked")?,
+        Claim::Deadlocked => print!(rt; "deadlocked")?,
+        Claim::NotDeadlocked => print!(rt; "not deadlocked")?,
         Claim::Refused(r) => refusal(rt, r)?,
     }
     Ok(())
@@ -19,9 +19,9 @@ fn claim(rt: &impl Print, nodes: usize, rows: &[u64], k: usize) -> io::Result<()
 fn ring(rt: &impl Print, nodes: usize, rows: &[u64], k: usize) -> io::Result<()> {
     let said = deadlock::ring_report(nodes, rows, Node(k));
     match said {
-        Report::InRing => text(rt, b"in the ring")?,
-        Report::BehindRing => text(rt, b"behind the ring")?,
-        Report::NotDeadlocked => text(rt, b"no ring")?,
+        Report::InRing => print!(rt; "in the ring")?,
+        Report::BehindRing => print!(rt; "behind the ring")?,
+        Report::NotDeadlocked => print!(rt; "no ring")?,
         Report::Refused(r) => refusal(rt, r)?,
     }
     Ok(())
@@ -34,7 +34,7 @@ fn evidence(rt: &impl Print, nodes: usize, rows: &[u64], k: usize) -> io::Result
     match written {
         Written::Bytes(count) => bytes(rt, &room, count)?,
         Written::Refused(r) => {
-            text(rt, b" ")?;
+            print!(rt; " ")?;
             refusal(rt, r)?;
         }
     }
@@ -43,36 +43,32 @@ fn evidence(rt: &impl Print, nodes: usize, rows: &[u64], k: usize) -> io::Result
 
 // A line on one node: each question that can be asked about it.
 pub fn asked(rt: &impl Print, nodes: usize, rows: &[u64], k: usize) -> io::Result<()> {
-    text(rt, b"node ")?;
-    number(rt, k as u64)?;
-    text(rt, b": ")?;
+    print!(rt; "node {k}: ")?;
     claim(rt, nodes, rows, k)?;
-    text(rt, b", ")?;
+    print!(rt; ", ")?;
     ring(rt, nodes, rows, k)?;
-    text(rt, b", evidence")?;
+    print!(rt; ", evidence")?;
     evidence(rt, nodes, rows, k)?;
     round(rt, nodes, rows, k)?;
-    text(rt, b"\n")
+    println!(rt)
 }
 
 fn each(rt: &impl Print, nodes: usize, rows: &[u64]) -> io::Result<()> {
-    let mut k: usize = 0;
-    while k < nodes {
-        text(rt, b"  ")?;
+    for k in 0..nodes {
+        print!(rt; "  ")?;
         asked(rt, nodes, rows, k)?;
-        k += 1;
     }
     Ok(())
 }
 
 // What the graph check says, and if it accepts, what is said of all claims and of each.
-pub fn morning(rt: &impl Print, label: &[u8], nodes: usize, rows: &[u64]) -> io::Result<()> {
+pub fn morning(rt: &impl Print, label: &str, nodes: usize, rows: &[u64]) -> io::Result<()> {
     checked(rt, label, nodes, rows)?;
     let found = deadlock::all_deadlocked(nodes, rows);
     if let Found::Nodes(s) = found {
-        text(rt, b"  deadlocked")?;
+        print!(rt; "  deadlocked")?;
         members(rt, s)?;
-        text(rt, b"\n")?;
+        println!(rt)?;
         each(rt, nodes, rows)?;
     }
     Ok(())

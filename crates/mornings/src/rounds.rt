@@ -1,6 +1,5 @@
 // A full round: opened at a node of a fresh bench, every message delivered, in the order of their numbers or in another.
-use crate::parts::wide;
-use crate::say::{number, refusal, text};
+use crate::say::refusal;
 use bench::Reply;
 use lent::{RECORDS, Step, record_numbers};
 use nodes::Round;
@@ -31,23 +30,21 @@ fn heard(before: Verdict, answer: Answer) -> Verdict {
 }
 
 fn ended(rt: &impl Print, sent: usize, verdict: Verdict) -> io::Result<()> {
-    text(rt, b"sends ")?;
-    number(rt, sent as u64)?;
-    text(rt, b" and says ")?;
+    print!(rt; "sends {sent} and says ")?;
     match verdict {
-        Verdict::NoVerdict => text(rt, b"nothing")?,
-        Verdict::Deadlocked => text(rt, b"deadlocked")?,
-        Verdict::NotDeadlocked => text(rt, b"not deadlocked")?,
+        Verdict::NoVerdict => print!(rt; "nothing")?,
+        Verdict::Deadlocked => print!(rt; "deadlocked")?,
+        Verdict::NotDeadlocked => print!(rt; "not deadlocked")?,
     }
     Ok(())
 }
 
 // Which message comes after k others: as the order says, and past its end message k.
 fn message(order: &[u8], k: usize) -> u64 {
-    if k < order.len() {
-        return wide(order[k]);
+    match order.get(k) {
+        Some(b) => u64::from(*b),
+        None => k as u64,
     }
-    k as u64
 }
 
 // Delivers every message of a round that was opened. An order has each once, so when as many came as were sent, all did.
@@ -64,8 +61,7 @@ fn deliver(
     let top = opened.highest;
     let mut sent = opened.sent;
     let mut verdict = heard(Verdict::NoVerdict, first);
-    let mut k: usize = 0;
-    while k < ROOM {
+    for k in 0..ROOM {
         if sent <= k {
             break;
         }
@@ -78,7 +74,6 @@ fn deliver(
         let answer = reply.answer;
         sent = reply.sent;
         verdict = heard(verdict, answer);
-        k += 1;
     }
     ended(rt, sent, verdict)
 }
@@ -101,7 +96,7 @@ pub fn full_round(
     let opened = bench::step(nodes, rows, records, messages, 0, Round(0), s);
     let answer = opened.answer;
     if let Answer::Refused(r) = answer {
-        text(rt, b"is ")?;
+        print!(rt; "is ")?;
         refusal(rt, r)?;
         return Ok(());
     }
@@ -129,6 +124,6 @@ fn begin(
 pub fn round(rt: &impl Print, nodes: usize, rows: &[u64], node: usize) -> io::Result<()> {
     let mut records = [0u64; RECORDS];
     let mut messages = [0u64; ROOM];
-    text(rt, b", a round ")?;
+    print!(rt; ", a round ")?;
     begin(rt, nodes, rows, &mut records, &mut messages, node)
 }
