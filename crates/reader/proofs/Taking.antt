@@ -1,5 +1,5 @@
 -- The fields of a line, as they are taken one after the other. Assumes nothing.
-use mathlib.Core.Path.{◌≡◌, refl, sym, ap, subst, ◌∙◌}
+use mathlib.Core.Path.{◌≡◌, refl, sym, ap, ◌∙◌}
 use mathlib.Core.Bool.{Bool, true, false}
 use mathlib.Core.Logic.{⊎_elim}
 use mathlib.Core.List.{List, [], ◌∷◌}
@@ -9,7 +9,7 @@ use native.Mathlib.Omega.{arith}
 use lib.Dec.{leb, eqb}
 use lib.ListN.{length, take, drop, length-drop}
 use borrow.Author.Tests.{le-leb, lt-leb, eq-eqb, ne_eqb, leb-true, leb-false, eqb-true, eqb-false}
-use Rattle.std.specs.Prelude.{Option, Some, None, MatchOption}
+use Rattle.std.specs.Prelude.{Option, Some, None}
 use Rattle.std.specs.Bool.{then_some}
 use Rattle.lemmas.proofs.Cases.{at_true, at_false}
 use Rattle.lemmas.proofs.Tests.{true_or_false}
@@ -24,7 +24,7 @@ use Rattle.fields.specs.Ends.{up_to, pieces_from}
 use Rattle.fields.proofs.Finding.{up_le, pieces_start, pieces_none, pieces_next}
 use Rattle.fields.proofs.Told.{told_none, told_number, told_no_set, told_set}
 use Rattle.reader.specs.declared.places.At.{At}
-use Rattle.reader.specs.Places.{left, field_at, place_for, place_after, number_at, set_at}
+use Rattle.reader.specs.Places.{left, field_at, place_for, place_after, answered_at, number_at, set_at}
 
 -- ---- places
 module _ (line : List ℕ) where
@@ -166,43 +166,36 @@ module _ (line : List ℕ) (from : ℕ) where
 
 -- ---- as they are read: past the line, or where the field stands
 module _ (line : List ℕ) (from : ℕ) where
-  module _ {T : Type 0} (r : At T) (zero : T) where
-    abbrev Past : Type 0
-    Past = length line < from → r ≡ record { value = zero; next = length line + 2 }
-
-    abbrev Read : Option T → Type 0
-    Read o = MatchOption o (r ≡ record { value = zero; next = length line + 2 }) (λ v. r ≡ record { value = v; next = (field_at line from).next })
-
-  pub number_by : (r : At ℕ) → Past r 0 → (from ≤ length line → (o : Option ℕ) × (o ≡ numbered (number_of (field_at line from).value)) × Read r 0 o) → r ≡ number_at line from
+  pub number_by : (r : At ℕ) → (length line < from → r ≡ answered_at line from 0 None) → (from ≤ length line → (o : Option ℕ) × (o ≡ numbered (number_of (field_at line from).value)) × (r ≡ answered_at line from 0 o)) → r ≡ number_at line from
   number_by r past here =
       ⊎_elim
       (λ (t : leb from (length line) ≡ true). let h = leb-true from (length line) t in let q = here h in go h q.0 q.1 q.2)
       (λ (t : leb from (length line) ≡ false). let h = leb-false from (length line) t in past h ∙ number_wrong line from (taken_past number_of line from h))
       (true_or_false (leb from (length line)))
     where
-      go : from ≤ length line → (o : Option ℕ) → o ≡ numbered (number_of (field_at line from).value) → Read r 0 o → r ≡ number_at line from
+      go : from ≤ length line → (o : Option ℕ) → o ≡ numbered (number_of (field_at line from).value) → r ≡ answered_at line from 0 o → r ≡ number_at line from
       go h None e q = q ∙ number_wrong line from (taken_here number_of line from h refl (told_none _ e))
       go h (Some v) e q = q ∙ number_right line from (taken_here number_of line from h refl (told_number _ e)) refl
 
-  pub set_by : (r : At Set) {zero : Set} → num zero ≡ 0 → Past r zero → (from ≤ length line → (o : Option Set) × (o ≡ gathered (set_in (field_at line from).value)) × Read r zero o) → r ≡ set_at line from
+  pub set_by : (r : At Set) {zero : Set} → num zero ≡ 0 → (length line < from → r ≡ answered_at line from zero None) → (from ≤ length line → (o : Option Set) × (o ≡ gathered (set_in (field_at line from).value)) × (r ≡ answered_at line from zero o)) → r ≡ set_at line from
   set_by r {zero} z past here =
       ⊎_elim
       (λ (t : leb from (length line) ≡ true). let h = leb-true from (length line) t in let q = here h in go h q.0 q.1 q.2)
       (λ (t : leb from (length line) ≡ false). let h = leb-false from (length line) t in past h ∙ set_wrong line from z (taken_past set_in line from h))
       (true_or_false (leb from (length line)))
     where
-      go : from ≤ length line → (o : Option Set) → o ≡ gathered (set_in (field_at line from).value) → Read r zero o → r ≡ set_at line from
+      go : from ≤ length line → (o : Option Set) → o ≡ gathered (set_in (field_at line from).value) → r ≡ answered_at line from zero o → r ≡ set_at line from
       go h None e q = q ∙ set_wrong line from z (taken_here set_in line from h refl (told_no_set _ e))
       go h (Some s) e q = q ∙ set_right line from (taken_here set_in line from h refl (told_set _ e)) refl
 
-  pub word_by : (word : List ℕ) (r : At Unit) → Past r tt → (from ≤ length line → (o : Option Unit) × (o ≡ then_some (same (field_at line from).value word) tt) × Read r tt o) → r.next ≡ place_after (word_in word) line from
+  pub word_by : (word : List ℕ) (r : At Unit) → (length line < from → r ≡ answered_at line from tt None) → (from ≤ length line → (o : Option Unit) × (o ≡ then_some (same (field_at line from).value word) tt) × (r ≡ answered_at line from tt o)) → r.next ≡ place_after (word_in word) line from
   word_by word r past here =
       ⊎_elim
-      (λ (t : leb from (length line) ≡ true). let h = leb-true from (length line) t in let q = here h in go h (same (field_at line from).value word) refl (subst (Read r tt) q.1 q.2))
+      (λ (t : leb from (length line) ≡ true). let h = leb-true from (length line) t in let q = here h in go h (same (field_at line from).value word) refl (q.2 ∙ ap (answered_at line from tt) q.1))
       (λ (t : leb from (length line) ≡ false). let h = leb-false from (length line) t in ap (λ (x : At Unit). x.next) (past h) ∙ place_wrong (word_in word) line from (taken_past (word_in word) line from h))
       (true_or_false (leb from (length line)))
     where
-      go : from ≤ length line → (b : Bool) → same (field_at line from).value word ≡ b → Read r tt (then_some b tt) → r.next ≡ place_after (word_in word) line from
+      go : from ≤ length line → (b : Bool) → same (field_at line from).value word ≡ b → r ≡ answered_at line from tt (then_some b tt) → r.next ≡ place_after (word_in word) line from
       go h true e q = ap (λ (x : At Unit). x.next) q ∙ place_right (word_in word) line from (taken_here (word_in word) line from h refl (word_is word _ e)) refl
       go h false e q = ap (λ (x : At Unit). x.next) q ∙ place_wrong (word_in word) line from (taken_here (word_in word) line from h refl (word_not word _ e))
 

@@ -1,9 +1,9 @@
 // The fields of a line, one after the other. A place in a line is where a field starts; behind the last field it is one past the
 // line's end, and two past it once something was wrong, so that whoever reads on needs no test.
-ghost use Rattle.std.specs.Prelude.{◌≡◌, ◌+◌, ◌<◌, ◌≤◌, length, Option, MatchOption};
+ghost use Rattle.std.specs.Prelude.{◌≡◌, ◌<◌, ◌≤◌, length, Option, None};
 ghost use Rattle.std.specs.Fn.{FnOnceReturnsAt};
 ghost use Rattle.format.specs.Fields.{word_in};
-ghost use Rattle.reader.specs.Places.{field_at, place_after, number_at, set_at};
+ghost use Rattle.reader.specs.Places.{field_at, place_after, answered_at, number_at, set_at};
 
 use fields::{bare, find, number_in, same, set_in};
 use nodes::Set;
@@ -16,10 +16,15 @@ pub struct At<T> {
 }
 
 // What the next field says, as `read` reads it without its quotes; zero if there is none, or if it can't be read.
-fn read_at<T: Copy, F: FnOnce(&[u8]) -> Option<T>>(line: &[u8], from: usize, zero: T, read: F) -> At<T>
+fn read_at<T: Copy, F: FnOnce(&[u8]) -> Option<T>>(
+    line: &[u8],
+    from: usize,
+    zero: T,
+    read: F,
+) -> At<T>
     requires { F.IsAlwaysCallable read }
-    ensures past { length line.now < from → result ≡ record { value = zero; next = length line.now + 2 } }
-    ensures here { from ≤ length line.now → (o : Option T) × FnOnceReturnsAt F.FnOnce read (field_at line.now from).value o × MatchOption o (result ≡ record { value = zero; next = length line.now + 2 }) (λ v. result ≡ record { value = v; next = (field_at line.now from).next }) }
+    ensures past { length line.now < from → result ≡ answered_at line.now from zero None }
+    ensures here { from ≤ length line.now → (o : Option T) × FnOnceReturnsAt F.FnOnce read (field_at line.now from).value o × (result ≡ answered_at line.now from zero o) }
 {
     let wrong = At {
         value: zero,
