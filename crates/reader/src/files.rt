@@ -66,9 +66,7 @@ fn read_rows(file: &[u8], from: usize, rows: &mut [u64]) -> Result<usize, usize>
     // From one line to the next the place jumps, so no range has all of them.
     while at < file.len() {
         let end = line_end(file, at);
-        let Some(r) = row(&file[at..end], k) else {
-            return Err(k + 2);
-        };
+        let r = row(&file[at..end], k).ok_or(k + 2)?;
         keep(rows, k, r);
         k += 1;
         at = end + 2;

@@ -10,8 +10,8 @@ returns-in_err-m-clause-is c = c.from_residual.ensures ∙ member_none _ _ c.in_
 pub returns-then-m-lowest-clause-is : goal.returns-then-m-lowest-clause-is
 returns-then-m-lowest-clause-is c =
     elim c.then-m-lowest.branch [
-      then-m-lowest-via-then-m-lowest w ↦ member_low _ _ c.in_ok-m.ensures w.if-m-lowest.true
-    | then-m-lowest-via-else-m-lowest+then-m w ↦ member_high _ _ c.in_ok-m.ensures w.if-m.true
+      | then-m-lowest-via-then-m-lowest w ↦ member_low _ _ c.in_ok-m.ensures w.if-m-lowest.true
+      | then-m-lowest-via-else-m-lowest+then-m w ↦ member_high _ _ c.in_ok-m.ensures w.if-m.true
     ]
 
 pub returns-clause-is : goal.returns-clause-is

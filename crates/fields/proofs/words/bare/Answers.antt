@@ -6,9 +6,9 @@ use Rattle.fields.proofs.words.bare.Goals.{then-end-lt2-via-then-end-lt2, then-e
 pub returns-then-end-lt2 : goal.returns-then-end-lt2
 returns-then-end-lt2 c =
     elim c.then-end-lt2.branch [
-      then-end-lt2-via-then-end-lt2 w ↦ bare_short _ w.if-end-lt2.true
-    | then-end-lt2-via-else-end-lt2+then-w-ne34 w ↦ bare_unopened _ w.if-w-ne34.true
-    | then-end-lt2-via-else-end-lt2+else-w-ne34+then-w-end-ne34 w ↦ bare_unclosed _ w.if-w-end-ne34.true
+      | then-end-lt2-via-then-end-lt2 w ↦ bare_short _ w.if-end-lt2.true
+      | then-end-lt2-via-else-end-lt2+then-w-ne34 w ↦ bare_unopened _ w.if-w-ne34.true
+      | then-end-lt2-via-else-end-lt2+else-w-ne34+then-w-end-ne34 w ↦ bare_unclosed _ w.if-w-end-ne34.true
     ]
 
 pub returns : goal.returns

@@ -6,8 +6,8 @@ use Rattle.reader.proofs.lines.row.Goals.{then-fourth-line-via-then-fourth-line,
 pub returns-then-fourth-line : goal.returns-then-fourth-line
 returns-then-fourth-line c =
     elim c.then-fourth-line.branch [
-      then-fourth-line-via-then-fourth-line w ↦ row_fields _ _ c.number_at-node.ensures c.number_at-kind.ensures c.number_at-threshold.ensures c.set_at-first.ensures c.set_at-second.ensures c.set_at-third.ensures c.set_at-fourth.ensures w.if-fourth-line.true
-    | then-fourth-line-via-else-fourth-line+then-node-k w ↦ row_node _ _ c.number_at-node.ensures c.number_at-kind.ensures c.number_at-threshold.ensures c.set_at-first.ensures c.set_at-second.ensures c.set_at-third.ensures c.set_at-fourth.ensures w.if-node-k.true
+      | then-fourth-line-via-then-fourth-line w ↦ row_fields _ _ c.number_at-node.ensures c.number_at-kind.ensures c.number_at-threshold.ensures c.set_at-first.ensures c.set_at-second.ensures c.set_at-third.ensures c.set_at-fourth.ensures w.if-fourth-line.true
+      | then-fourth-line-via-else-fourth-line+then-node-k w ↦ row_node _ _ c.number_at-node.ensures c.number_at-kind.ensures c.number_at-threshold.ensures c.set_at-first.ensures c.set_at-second.ensures c.set_at-third.ensures c.set_at-fourth.ensures w.if-node-k.true
     ]
 
 pub returns : goal.returns
