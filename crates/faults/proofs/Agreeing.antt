@@ -24,7 +24,7 @@ use Rattle.faults.specs.declared.flaws.Flaw.TheVariants.{Empty, NoDigit, PastBit
 use Rattle.faults.specs.Flaws.{number_flaw, member_in, member_then, members_flaw, set_flaw}
 use Rattle.faults.proofs.Judging.{member_back}
 
-wrong : {A : Type 0} {f : Flaw} → ◌≡◌ {A = Result (Unit {0}) Flaw} (Err f) (Ok tt) → A
+wrong : {A : Type 0} {f : Flaw} → ◌≡◌ {A = Result Unit Flaw} (Err f) (Ok tt) → A
 wrong e = absurd cc
 
 -- ---- a number

@@ -35,7 +35,7 @@ use Rattle.faults.proofs.Walking.{line_commas}
 use Rattle.faults.proofs.Headers.{clean_has}
 
 -- ---- a field of a form
-abbrev flaw_as : Form → List ℕ → Result (Unit {0}) Flaw
+abbrev flaw_as : Form → List ℕ → Result Unit Flaw
 flaw_as Number = number_flaw
 flaw_as Members = set_flaw
 
@@ -63,7 +63,7 @@ more_not e = let z : ◌≡◌ {A = ℕ} 0 1 = cc in omega arith
 column_not : {c : ℕ} {f : Flaw} → Column c f ≡ NotNext → ⊥
 column_not e = let z : ◌≡◌ {A = ℕ} 0 1 = cc in omega arith
 
-then_fine : (c : ℕ) (j : Result (Unit {0}) Flaw) (later : Fault) → column_then c j later ≡ NotNext → (j ≡ Ok tt) × (later ≡ NotNext)
+then_fine : (c : ℕ) (j : Result Unit Flaw) (later : Fault) → column_then c j later ≡ NotNext → (j ≡ Ok tt) × (later ≡ NotNext)
 then_fine c (Ok u) later e = (refl, e)
 then_fine c (Err f) later e = absurd (column_not e)
 
@@ -88,7 +88,7 @@ read_fields column (f ∷ forms) s ps e =
     ap (fields_fault column) (some-injective ps (r.0 ∷ q.0) r.1)
     ∙ sym
     (at_true MoreFields (lt-ltb column columns s.0)
-    (sym (ap (λ (j : Result (Unit {0}) Flaw). column_then column j (fields_fault (suc column) q.0)) fine ∙ later)))
+    (sym (ap (λ (j : Result Unit Flaw). column_then column j (fields_fault (suc column) q.0)) fine ∙ later)))
 
 -- ---- a row has a comma, and no LF
 one_field : (w : List ℕ) → fields_fault 0 (w ∷ []) ≡ NotNext → ⊥

@@ -53,7 +53,7 @@ module _ (w : List ℕ) (lowest i : ℕ) (s : MembersLeft w lowest i) where
   members_all h = ap (members_flaw lowest) (sym h) ∙ s
 
 -- ---- a field
-module _ (column : ℕ) (w : List ℕ) {t : List ℕ} (bared : t ≡ bare w) {r : Result (Unit {0}) Flaw} where
+module _ (column : ℕ) (w : List ℕ) {t : List ℕ} (bared : t ≡ bare w) {r : Result Unit Flaw} where
   pub field_number : column < 3 → r ≡ number_flaw t → r ≡ field_flaw column w
   unfolding field_flaw
   field_number h e = at_true _ (lt-ltb column 3 h) (e ∙ ap number_flaw bared)

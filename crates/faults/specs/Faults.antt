@@ -38,10 +38,10 @@ abbrev pub columns : ℕ
 columns = 7
 
 -- the first three columns are numbers, and then come sets
-unfoldable pub field_flaw : (column : ℕ) → List ℕ → Result (Unit {0}) Flaw
+unfoldable pub field_flaw : (column : ℕ) → List ℕ → Result Unit Flaw
 field_flaw column w = cond (ltb column 3) (number_flaw (bare w)) (set_flaw (bare w))
 
-abbrev pub column_then : ℕ → Result (Unit {0}) Flaw → Fault → Fault
+abbrev pub column_then : ℕ → Result Unit Flaw → Fault → Fault
 column_then column (Ok u) later = later
 column_then column (Err f) later = Column column f
 

@@ -9,7 +9,7 @@ use Rattle.faults.specs.declared.flaws.Flaw.{Flaw}
 use Rattle.faults.specs.declared.flaws.Flaw.TheVariants.{Empty, NoDigit, PastBits, Spaces, Strange, NoPlace, Twice, Descends}
 
 -- a number
-unfoldable pub number_flaw : List ℕ → Result (Unit {0}) Flaw
+unfoldable pub number_flaw : List ℕ → Result Unit Flaw
 number_flaw w =
     cond (eqb (length w) 0) (Err Empty)
     (cond (any_of no_digit w) (Err NoDigit)
@@ -30,15 +30,15 @@ member_in lowest w =
     (Ok m)))))
 
 -- the first member that is wrong, or those after it
-abbrev pub member_then : Result ℕ Flaw → Result (Unit {0}) Flaw → Result (Unit {0}) Flaw
+abbrev pub member_then : Result ℕ Flaw → Result Unit Flaw → Result Unit Flaw
 member_then (Ok m) later = later
 member_then (Err f) later = Err f
 
-unfoldable pub members_flaw : (lowest : ℕ) → List (List ℕ) → Result (Unit {0}) Flaw
+unfoldable pub members_flaw : (lowest : ℕ) → List (List ℕ) → Result Unit Flaw
 members_flaw lowest [] = Ok tt
 members_flaw lowest (w ∷ ws) = member_then (member_in lowest w) (members_flaw (value_from 0 w + 1) ws)
 
 -- nothing is the set with no members; any other has one piece more than there are spaces
-unfoldable pub set_flaw : List ℕ → Result (Unit {0}) Flaw
+unfoldable pub set_flaw : List ℕ → Result Unit Flaw
 set_flaw [] = Ok tt
 set_flaw (b ∷ l) = members_flaw 0 (pieces space (b ∷ l))

@@ -1,106 +1,65 @@
 // The fields of a line, one after the other. A place in a line is where a field starts; behind the last field it is one past the
 // line's end, and two past it once something was wrong, so that whoever reads on needs no test.
-ghost use Rattle.std.specs.Prelude.{◌≡◌, ◌≤◌, length};
+ghost use Rattle.std.specs.Prelude.{◌≡◌, ◌<◌, ◌≤◌, length, Option, None};
+ghost use Rattle.std.specs.Fn.{FnOnceReturnsAt};
 ghost use Rattle.format.specs.Fields.{word_in};
-ghost use Rattle.reader.specs.Places.{field_at, place_after, number_at, set_at};
+ghost use Rattle.reader.specs.Places.{field_at, place_after, answered_at, number_at, set_at};
 
-use fields::{Gathered, Numbered, bare, find, number_in, same, set_in};
+use fields::{bare, find, number_in, same, set_in};
 use nodes::Set;
 
-// A field without its quotes, and where the next one starts.
+// What a field says, and where the next one starts.
 #[derive(Clone, Copy)]
-pub struct FieldAt {
-    pub start: usize,
-    pub end: usize,
+pub struct At<T> {
+    pub value: T,
     pub next: usize,
 }
 
-#[derive(Clone, Copy)]
-pub struct NumberAt {
-    pub value: u64,
-    pub next: usize,
-}
-
-#[derive(Clone, Copy)]
-pub struct SetAt {
-    pub value: Set,
-    pub next: usize,
-}
-
-fn field_at(line: &[u8], from: usize) -> FieldAt
-    requires { from ≤ length line.now }
-    ensures { result ≡ field_at line.now from }
+// What the next field says, as `read` reads it without its quotes; zero if there is none, or if it can't be read.
+fn read_at<T: Copy, F: FnOnce(&[u8]) -> Option<T>>(
+    line: &[u8],
+    from: usize,
+    zero: T,
+    read: F,
+) -> At<T>
+    requires { F.IsAlwaysCallable read }
+    ensures past { length line.now < from → result ≡ answered_at line.now from zero None }
+    ensures here { from ≤ length line.now → (o : Option T) × FnOnceReturnsAt F.FnOnce read (field_at line.now from).value o × (result ≡ answered_at line.now from zero o) }
 {
+    let wrong = At {
+        value: zero,
+        next: line.len() + 2,
+    };
+    if line.len() < from {
+        return wrong;
+    }
     let end = find(line, from, b',');
-    let part = bare(&line[from..end]);
-    FieldAt {
-        start: from + part.start,
-        end: from + part.end,
-        next: end + 1,
+    match read(bare(&line[from..end])) {
+        Some(value) => At {
+            value,
+            next: end + 1,
+        },
+        None => wrong,
     }
 }
 
 // The number that is the next field.
-pub fn number_at(line: &[u8], from: usize) -> NumberAt
+pub fn number_at(line: &[u8], from: usize) -> At<u64>
     ensures { result ≡ number_at line.now from }
 {
-    let wrong = NumberAt {
-        value: 0,
-        next: line.len() + 2,
-    };
-    if line.len() < from {
-        return wrong;
-    }
-    let f = field_at(line, from);
-    let a = f.start;
-    let b = f.end;
-    let n = number_in(&line[a..b]);
-    let Numbered::Number(v) = n else {
-        return wrong;
-    };
-    NumberAt {
-        value: v,
-        next: f.next,
-    }
+    read_at(line, from, 0, |w| number_in(w))
 }
 
 // The set that is the next field.
-pub fn set_at(line: &[u8], from: usize) -> SetAt
+pub fn set_at(line: &[u8], from: usize) -> At<Set>
     ensures { result ≡ set_at line.now from }
 {
-    let nobody = Set::empty();
-    let wrong = SetAt {
-        value: nobody,
-        next: line.len() + 2,
-    };
-    if line.len() < from {
-        return wrong;
-    }
-    let f = field_at(line, from);
-    let a = f.start;
-    let b = f.end;
-    let s = set_in(&line[a..b]);
-    let Gathered::Members(members) = s else {
-        return wrong;
-    };
-    SetAt {
-        value: members,
-        next: f.next,
-    }
+    read_at(line, from, Set::empty(), |w| set_in(w))
 }
 
 // Passes a word that must be the next field.
 pub fn word_at(line: &[u8], from: usize, word: &[u8]) -> usize
     ensures { result ≡ place_after (word_in word.now) line.now from }
 {
-    if line.len() < from {
-        return line.len() + 2;
-    }
-    let f = field_at(line, from);
-    let a = f.start;
-    let b = f.end;
-    if same(&line[a..b], word) {
-        return f.next;
-    }
-    line.len() + 2
+    read_at(line, from, (), |w| same(w, word).then_some(())).next
 }

@@ -1,25 +1,17 @@
 -- `number_at` meets its contract. Assumes nothing.
-use mathlib.Core.Path.{sym, ◌∙◌}
-use native.Mathlib.Omega.{arith}
-use Rattle.fields.proofs.Told.{told_none, told_number}
-use Rattle.reader.proofs.Taking.{field_found, taken_past, taken_here, number_wrong, number_right}
+use mathlib.Core.Path.{◌≡◌, ap, ◌∙◌}
+use mathlib.Core.List.{List}
+use Prim.Native.Nat.{ℕ}
+use Rattle.std.proofs.Common.{rules}
 use Rattle.format.specs.Fields.{number_of}
+use Rattle.fields.specs.Answers.{numbered}
+use Rattle.reader.proofs.Taking.{number_by}
 use Rattle.reader.proofs.places.number_at.Goals as goal
 
-pub returns-then-line-from : goal.returns-then-line-from
-returns-then-line-from c = number_wrong _ _ (taken_past number_of _ _ c.if-line-from.true)
-
-pub slice_bounds-number_in-count : goal.slice_bounds-number_in-count
-slice_bounds-number_in-count c = omega (arith, (field_found _ _ c.if-line-from.false c.field_at-f.ensures).part.order)
-
-pub slice_bounds-number_in-start : goal.slice_bounds-number_in-start
-slice_bounds-number_in-start c = (field_found _ _ c.if-line-from.false c.field_at-f.ensures).part.order
-
-pub slice_bounds-number_in-end : goal.slice_bounds-number_in-end
-slice_bounds-number_in-end c = (field_found _ _ c.if-line-from.false c.field_at-f.ensures).part.inside
-
-pub returns-in_default : goal.returns-in_default
-returns-in_default c = number_wrong _ _ (taken_here number_of _ _ (field_found _ _ c.if-line-from.false c.field_at-f.ensures) (told_none _ (sym c.in_default.is ∙ c.number_in-n.ensures)))
-
 pub returns : goal.returns
-returns c = number_right _ _ (taken_here number_of _ _ (field_found _ _ c.if-line-from.false c.field_at-f.ensures) (told_number _ (sym c.in-Number.is ∙ c.number_in-n.ensures))) c.field_at-f.ensures
+returns c =
+    number_by _ _ _ c.read_at.ensures.past
+    (λ h.
+    let r = c.read_at.ensures.here h in
+    let k : r.0 ≡ numbered (number_of r.1.0.now) = search rules in
+    (r.0, k ∙ ap (λ (w : List ℕ). numbered (number_of w)) r.1.2, r.2))
