@@ -10,6 +10,7 @@ use native.Mathlib.Omega.{arith}
 use lib.Dec.{leb, eqb}
 use lib.ListN.{length, length-append}
 use borrow.Author.Tests.{leb-true, ltb-false, eqb-true, not-false}
+use Rattle.std.specs.Prelude.{Ok}
 use Rattle.lemmas.proofs.Tests.{and_right}
 use Rattle.nodes.specs.Sets.{In, members, size}
 use Rattle.nodes.specs.Words.{num}
@@ -17,7 +18,6 @@ use Rattle.nodes.proofs.Inside.{inside_in, inside_lt}
 use Rattle.nodes.proofs.Members.{members_in}
 use Rattle.nodes.proofs.Size.{size_members, size_le, size_mono}
 use Rattle.waits.specs.declared.rows.Row.{Row}
-use Rattle.waits.specs.declared.numbers.Checked.TheVariants.{Accepted}
 use Rattle.waits.specs.Waits.{Waits, edges_to, edges}
 use Rattle.waits.specs.Rows.{row_at, sets_of, out_of, rows_at, rows_of, waits_of}
 use Rattle.waits.specs.Numbers.{most_edges, line, strange_kind, wrong_threshold, many_edges, rows_lines, check_of}
@@ -98,7 +98,7 @@ threshold_most r e = go (eqb r.kind 1) e
     go false h = let z = eqb-true r.threshold 0 (not-false _ h) in omega arith
 
 -- ---- the file
-module _ (n : ℕ) (rows : List ℕ) (ok : check_of n rows ≡ Accepted) where
+module _ (n : ℕ) (rows : List ℕ) (ok : check_of n rows ≡ Ok tt) where
   abbrev w : Waits
   w = waits_of n rows
 
