@@ -9,6 +9,7 @@ use native.Mathlib.Omega.{arith}
 use lib.Dec.{leb, ltb, eqb}
 use lib.ListN.{length}
 use borrow.Author.Tests.{ne_eqb, lt-leb, lt-ltb, le-ltb, leb-false, ltb-true, ltb-false, not-false}
+use Rattle.std.specs.Prelude.{Result, Ok, Err}
 use Rattle.lemmas.specs.Lists.{any_of, ascending}
 use Rattle.lemmas.proofs.Cases.{at_false}
 use Rattle.lemmas.proofs.Tests.{and_intro, and_left, and_right, or_left_false, or_right_false}
@@ -20,14 +21,11 @@ use Rattle.format.proofs.Choices.{some_unless}
 use Rattle.format.proofs.SetTexts.{in_front_lem, these}
 use Rattle.faults.specs.declared.flaws.Flaw.{Flaw}
 use Rattle.faults.specs.declared.flaws.Flaw.TheVariants.{Empty, NoDigit, PastBits}
-use Rattle.faults.specs.declared.flaws.Judged.TheVariants.{Fine, Wrong}
-use Rattle.faults.specs.declared.flaws.Member.{Member}
-use Rattle.faults.specs.declared.flaws.Member.TheVariants.{Is, IsNot}
 use Rattle.faults.specs.Flaws.{number_flaw, member_in, member_then, members_flaw, set_flaw}
 use Rattle.faults.proofs.Judging.{member_back}
 
-wrong : {A : Type 0} {f : Flaw} → Wrong f ≡ Fine → A
-wrong e = absurd (let z : ◌≡◌ {A = ℕ} 0 1 = cc in omega arith)
+wrong : {A : Type 0} {f : Flaw} → ◌≡◌ {A = Result Unit Flaw} (Err f) (Ok tt) → A
+wrong e = absurd cc
 
 -- ---- a number
 number_sure : (w : List ℕ) (v : ℕ) → eqb (length w) 0 ≡ false → any_of no_digit w ≡ false → leb (2 ^ 64) (value_from 0 w) ≡ false → value_from 0 w ≡ v
@@ -49,7 +47,7 @@ number_parts w v e =
     )
 
 -- Law: a field has no flaw as a number exactly if it is read as one.
-pub number_agrees : (w : List ℕ) → (number_flaw w ≡ Fine) ↔ ((v : ℕ) × (number_of w ≡ some v))
+pub number_agrees : (w : List ℕ) → (number_flaw w ≡ Ok tt) ↔ ((v : ℕ) × (number_of w ≡ some v))
 unfolding number_flaw
 number_agrees w = (
   go (eqb (length w) 0) refl (any_of no_digit w) refl (leb (2 ^ 64) (value_from 0 w)) refl,
@@ -57,7 +55,7 @@ number_agrees w = (
 )
   where
     go : (a : Bool) → eqb (length w) 0 ≡ a → (b : Bool) → any_of no_digit w ≡ b → (c : Bool) → leb (2 ^ 64) (value_from 0 w) ≡ c
-        → cond a (Wrong Empty) (cond b (Wrong NoDigit) (cond c (Wrong PastBits) Fine)) ≡ Fine → (v : ℕ) × (number_of w ≡ some v)
+        → cond a (Err Empty) (cond b (Err NoDigit) (cond c (Err PastBits) (Ok (tt {0})))) ≡ Ok tt → (v : ℕ) × (number_of w ≡ some v)
     go true _ b _ c _ e = wrong e
     go false _ true _ c _ e = wrong e
     go false _ false _ true _ e = wrong e
@@ -85,15 +83,15 @@ ascends_from : (m : ℕ) (ms : List ℕ) → ascending (m ∷ ms) ≡ true → N
 ascends_from m [] a = (tt, refl)
 ascends_from m (n ∷ ms) a = (omega (arith, ltb-true m n (and_left (ltb m n) (ascending (n ∷ ms)) a)), and_right (ltb m n) (ascending (n ∷ ms)) a)
 
-members_read : (lowest : ℕ) (ws : List (List ℕ)) → members_flaw lowest ws ≡ Fine → Members lowest ws
+members_read : (lowest : ℕ) (ws : List (List ℕ)) → members_flaw lowest ws ≡ Ok tt → Members lowest ws
 unfolding members_flaw numbers_of
 members_read lowest [] e = record { these_are = []; read = refl; from = tt; ascends = refl; placed = refl }
 members_read lowest (w ∷ ws) e = go (member_in lowest w) refl e (members_read (value_from 0 w + 1) ws)
   where
-    go : (m : Member) → member_in lowest w ≡ m → member_then m (members_flaw (value_from 0 w + 1) ws) ≡ Fine
-        → (members_flaw (value_from 0 w + 1) ws ≡ Fine → Members (value_from 0 w + 1) ws) → Members lowest (w ∷ ws)
-    go (IsNot f) i e ih = wrong e
-    go (Is m) i e ih =
+    go : (m : Result ℕ Flaw) → member_in lowest w ≡ m → member_then m (members_flaw (value_from 0 w + 1) ws) ≡ Ok tt
+        → (members_flaw (value_from 0 w + 1) ws ≡ Ok tt → Members (value_from 0 w + 1) ws) → Members lowest (w ∷ ws)
+    go (Err f) i e ih = wrong e
+    go (Ok m) i e ih =
         let b = member_back lowest w m i in
         let r = ih e in
         let v = value_from 0 w in
@@ -106,7 +104,7 @@ members_read lowest (w ∷ ws) e = go (member_in lowest w) refl e (members_read 
           placed = ap₂ (λ (x : Bool) (y : Bool). x || y) b.placed r.placed;
         }
 
-member_sure : (lowest : ℕ) (w : List ℕ) (m : ℕ) → number_of w ≡ some m → lowest ≤ m → leb places m ≡ false → member_in lowest w ≡ Is (value_from 0 w)
+member_sure : (lowest : ℕ) (w : List ℕ) (m : ℕ) → number_of w ≡ some m → lowest ≤ m → leb places m ≡ false → member_in lowest w ≡ Ok (value_from 0 w)
 unfolding member_in
 member_sure lowest w m e l h =
     let p = number_parts w m e in
@@ -119,7 +117,7 @@ member_sure lowest w m e l h =
     (at_false _ (le-ltb v lowest (omega (arith, p.3))) refl)))))
 
 members_fine : (lowest : ℕ) (ws : List (List ℕ)) (ms : List ℕ) → numbers_of ws ≡ some ms → NoLower lowest ms → ascending ms ≡ true → any_of (leb places) ms ≡ false
-    → members_flaw lowest ws ≡ Fine
+    → members_flaw lowest ws ≡ Ok tt
 unfolding members_flaw numbers_of
 members_fine lowest [] ms e l a h = refl
 members_fine lowest (w ∷ ws) ms e l a h =
@@ -128,10 +126,10 @@ members_fine lowest (w ∷ ws) ms e l a h =
     (λ up placed. let b = ascends_from q.0 q.1 up in members_fine (q.0 + 1) ws q.1 q.3 b.0 b.1 placed)
   where
     go : (m : ℕ) (r : List ℕ) → number_of w ≡ some m → lowest ≤ m → ascending (m ∷ r) ≡ true → any_of (leb places) (m ∷ r) ≡ false
-        → (ascending (m ∷ r) ≡ true → any_of (leb places) r ≡ false → members_flaw (m + 1) ws ≡ Fine)
-        → member_then (member_in lowest w) (members_flaw (value_from 0 w + 1) ws) ≡ Fine
+        → (ascending (m ∷ r) ≡ true → any_of (leb places) r ≡ false → members_flaw (m + 1) ws ≡ Ok tt)
+        → member_then (member_in lowest w) (members_flaw (value_from 0 w + 1) ws) ≡ Ok tt
     go m r n l a h ih =
-        ap (λ (x : Member). member_then x (members_flaw (value_from 0 w + 1) ws)) (member_sure lowest w m n l (or_left_false (leb places m) (any_of (leb places) r) h))
+        ap (λ (x : Result ℕ Flaw). member_then x (members_flaw (value_from 0 w + 1) ws)) (member_sure lowest w m n l (or_left_false (leb places m) (any_of (leb places) r) h))
         ∙ ap (λ (x : ℕ). members_flaw (x + 1) ws) (number_parts w m n).3
         ∙ ih a (or_right_false (leb places m) (any_of (leb places) r) h)
 
@@ -141,7 +139,7 @@ unfolding no_set
 all_set ms a h = sym (at_false none (ap₂ (λ (x : Bool) (y : Bool). not x || y) a h) refl)
 
 -- Law: a field has no flaw as a set exactly if it is read as one.
-pub set_agrees : (w : List ℕ) → (set_flaw w ≡ Fine) ↔ ((s : ℕ) × (set_in w ≡ some s))
+pub set_agrees : (w : List ℕ) → (set_flaw w ≡ Ok tt) ↔ ((s : ℕ) × (set_in w ≡ some s))
 unfolding set_flaw set_in members_of no_set
 set_agrees [] = (λ e. (set_of [], refl), λ r. refl)
 set_agrees (b ∷ l) = (

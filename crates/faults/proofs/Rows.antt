@@ -9,6 +9,7 @@ use Prim.Native.Nat.{ℕ, suc, ◌<◌}
 use native.Mathlib.Omega.{arith}
 use lib.Dec.{eqb}
 use borrow.Author.Tests.{lt-ltb, le-ltb, eq-eqb}
+use Rattle.std.specs.Prelude.{Result, Ok, Err}
 use Rattle.lemmas.proofs.Cases.{at_true, at_false, of_true}
 use Rattle.lemmas.proofs.Tests.{and_intro, true_or_false}
 use Rattle.waits.specs.declared.rows.Row.{Row}
@@ -25,8 +26,6 @@ use Rattle.format.proofs.Clean.{no_text, Clean, rows_clean}
 use Rattle.format.proofs.Values.{row_values_lem}
 use Rattle.format.proofs.Records.{values_of}
 use Rattle.faults.specs.declared.flaws.Flaw.{Flaw}
-use Rattle.faults.specs.declared.flaws.Judged.{Judged}
-use Rattle.faults.specs.declared.flaws.Judged.TheVariants.{Fine, Wrong}
 use Rattle.faults.specs.declared.Fault.{Fault}
 use Rattle.faults.specs.declared.Fault.TheVariants.{BareLf, Semicolons, Column, MoreFields, NotNext}
 use Rattle.faults.specs.Flaws.{number_flaw, set_flaw}
@@ -36,11 +35,11 @@ use Rattle.faults.proofs.Walking.{line_commas}
 use Rattle.faults.proofs.Headers.{clean_has}
 
 -- ---- a field of a form
-abbrev flaw_as : Form → List ℕ → Judged
+abbrev flaw_as : Form → List ℕ → Result Unit Flaw
 flaw_as Number = number_flaw
 flaw_as Members = set_flaw
 
-form_agrees : (f : Form) (w : List ℕ) → (flaw_as f w ≡ Fine) ↔ ((v : ℕ) × (read_as f w ≡ some v))
+form_agrees : (f : Form) (w : List ℕ) → (flaw_as f w ≡ Ok tt) ↔ ((v : ℕ) × (read_as f w ≡ some v))
 form_agrees Number w = number_agrees w
 form_agrees Members w = set_agrees w
 
@@ -64,9 +63,9 @@ more_not e = let z : ◌≡◌ {A = ℕ} 0 1 = cc in omega arith
 column_not : {c : ℕ} {f : Flaw} → Column c f ≡ NotNext → ⊥
 column_not e = let z : ◌≡◌ {A = ℕ} 0 1 = cc in omega arith
 
-then_fine : (c : ℕ) (j : Judged) (later : Fault) → column_then c j later ≡ NotNext → (j ≡ Fine) × (later ≡ NotNext)
-then_fine c Fine later e = (refl, e)
-then_fine c (Wrong f) later e = absurd (column_not e)
+then_fine : (c : ℕ) (j : Result Unit Flaw) (later : Fault) → column_then c j later ≡ NotNext → (j ≡ Ok tt) × (later ≡ NotNext)
+then_fine c (Ok u) later e = (refl, e)
+then_fine c (Err f) later e = absurd (column_not e)
 
 fields_read : (column : ℕ) (forms : List Form) → Columns column forms → (ps : List (List ℕ)) → fields_fault column ps ≡ NotNext → after forms (some ps) ≡ some []
 unfolding fields_fault
@@ -84,12 +83,12 @@ read_fields column [] s ps e = ap (fields_fault column) (some-injective ps [] e)
 read_fields column (f ∷ forms) s ps e =
     let q = texts_back forms (next (read_as f) (some ps)).rest e in
     let r = next_back (read_as f) (some ps) q.0 q.1 in
-    let fine : field_flaw column r.0 ≡ Fine = s.1 r.0 ∙ (form_agrees f (bare r.0)).1 (_, r.2) in
+    let fine : field_flaw column r.0 ≡ Ok tt = s.1 r.0 ∙ (form_agrees f (bare r.0)).1 (_, r.2) in
     let later = read_fields (suc column) forms s.2 q.0 (ap (after forms) (sym q.1) ∙ e) in
     ap (fields_fault column) (some-injective ps (r.0 ∷ q.0) r.1)
     ∙ sym
     (at_true MoreFields (lt-ltb column columns s.0)
-    (sym (ap (λ (j : Judged). column_then column j (fields_fault (suc column) q.0)) fine ∙ later)))
+    (sym (ap (λ (j : Result Unit Flaw). column_then column j (fields_fault (suc column) q.0)) fine ∙ later)))
 
 -- ---- a row has a comma, and no LF
 one_field : (w : List ℕ) → fields_fault 0 (w ∷ []) ≡ NotNext → ⊥

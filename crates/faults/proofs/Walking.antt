@@ -2,24 +2,18 @@
 use mathlib.Core.Path.{◌≡◌, refl, sym, ap, ◌∙◌}
 use mathlib.Core.Bool.{true, false, not}
 use mathlib.Core.List.{List, [], ◌∷◌}
-use Prim.Native.Nat.{ℕ, suc, ◌+◌, ◌-◌, ◌≤◌, ◌<◌}
+use Prim.Native.Nat.{ℕ, suc, ◌+◌, ◌≤◌, ◌<◌}
 use native.Mathlib.Numerals.{add-one}
 use native.Mathlib.Omega.{arith}
-use lib.ListN.{length, take, drop}
-use borrow.Author.Tests.{lt-ltb, le-ltb, leb-false}
+use lib.ListN.{length, drop}
+use borrow.Author.Tests.{lt-ltb, le-ltb}
+use Rattle.std.specs.Prelude.{Result, Ok, Err}
 use Rattle.lemmas.proofs.Cases.{at_true, at_false}
 use Rattle.lemmas.proofs.Tests.{and_intro, and_first, and_later}
-use Rattle.nodes.specs.Words.{places}
 use Rattle.format.specs.Cut.{space, comma, lf, pieces}
 use Rattle.format.specs.Fields.{value_from, bare}
-use Rattle.fields.specs.Ends.{up_to, pieces_from}
-use Rattle.fields.proofs.Finding.{pieces_start, pieces_none, pieces_next}
 use Rattle.faults.specs.declared.flaws.Flaw.{Flaw}
 use Rattle.faults.specs.declared.flaws.Flaw.TheVariants.{Missing}
-use Rattle.faults.specs.declared.flaws.Judged.{Judged}
-use Rattle.faults.specs.declared.flaws.Judged.TheVariants.{Fine, Wrong}
-use Rattle.faults.specs.declared.flaws.Member.{Member}
-use Rattle.faults.specs.declared.flaws.Member.TheVariants.{Is, IsNot}
 use Rattle.faults.specs.declared.Fault.{Fault}
 use Rattle.faults.specs.declared.Fault.TheVariants.{BareLf, Semicolons, Column, MoreFields, NotNext}
 use Rattle.faults.specs.Flaws.{number_flaw, member_in, member_then, members_flaw, set_flaw}
@@ -28,9 +22,9 @@ use Rattle.faults.proofs.Judging.{member_back}
 
 -- ---- the members of a set: what is wrong with those that are left is what is wrong with the set
 abbrev pub MembersLeft : List ℕ → ℕ → ℕ → Type 0
-MembersLeft w lowest at = members_flaw lowest (pieces_from space w at) ≡ set_flaw w
+MembersLeft w lowest i = members_flaw lowest (drop i (pieces space w)) ≡ set_flaw w
 
-pub set_empty : (w : List ℕ) → length w ≡ 0 → Fine ≡ set_flaw w
+pub set_empty : (w : List ℕ) → length w ≡ 0 → Ok tt ≡ set_flaw w
 unfolding set_flaw
 set_empty [] e = refl
 set_empty (x ∷ w) e = absurd (omega arith)
@@ -38,36 +32,28 @@ set_empty (x ∷ w) e = absurd (omega arith)
 pub members_start : (w : List ℕ) → (length w ≡ 0 → ⊥) → MembersLeft w 0 0
 unfolding set_flaw
 members_start [] n = absurd (n refl)
-members_start (x ∷ w) n = ap (members_flaw 0) (pieces_start space (x ∷ w))
+members_start (x ∷ w) n = refl
 
-module _ (w : List ℕ) (lowest at : ℕ) (s : MembersLeft w lowest at) where
-  module _ {end : ℕ} (found : end ≡ at + up_to space (drop at w)) (inside : at ≤ length w) {m : Member} (read : m ≡ member_in lowest (take (end - at) (drop at w))) where
-    then : member_then m (members_flaw (value_from 0 (take (end - at) (drop at w)) + 1) (pieces_from space w (end + 1))) ≡ set_flaw w
+module _ (w : List ℕ) (lowest i : ℕ) (s : MembersLeft w lowest i) where
+  module _ {piece : List ℕ} (at : drop i (pieces space w) ≡ piece ∷ drop (i + 1) (pieces space w)) where
+    then : member_then (member_in lowest piece) (members_flaw (value_from 0 piece + 1) (drop (i + 1) (pieces space w))) ≡ set_flaw w
     unfolding members_flaw
-    then =
-        ap (λ (x : Member). member_then x (members_flaw (value_from 0 (take (end - at) (drop at w)) + 1) (pieces_from space w (end + 1)))) read
-        ∙ ap (members_flaw lowest) (sym (pieces_next space w at end inside found))
-        ∙ s
+    then = ap (members_flaw lowest) (sym at) ∙ s
 
-    pub member_wrong : {f : Flaw} → m ≡ IsNot f → Wrong f ≡ set_flaw w
-    member_wrong e = rw e at then
+    pub member_wrong : {f : Flaw} → Err f ≡ member_in lowest piece → Err f ≡ set_flaw w
+    member_wrong e = rw (sym e) at then
 
-    pub member_placed : {v : ℕ} → m ≡ Is v → v < places
-    member_placed {v} e =
-        let b = member_back lowest (take (end - at) (drop at w)) v (sym read ∙ e) in
-        omega (arith, leb-false places (value_from 0 (take (end - at) (drop at w))) b.placed, b.value)
-
-    pub member_next : {v : ℕ} → m ≡ Is v → MembersLeft w (v + 1) (end + 1)
+    pub member_next : {v : ℕ} → Ok v ≡ member_in lowest piece → MembersLeft w (v + 1) (i + 1)
     member_next {v} e =
-        let b = member_back lowest (take (end - at) (drop at w)) v (sym read ∙ e) in
-        ap (λ (x : ℕ). members_flaw (x + 1) (pieces_from space w (end + 1))) (sym b.value) ∙ rw e at then
+        let b = member_back lowest piece v (sym e) in
+        ap (λ (x : ℕ). members_flaw (x + 1) (drop (i + 1) (pieces space w))) (sym b.value) ∙ rw (sym e) at then
 
-  pub members_all : length w < at → Fine ≡ set_flaw w
+  pub members_all : drop i (pieces space w) ≡ [] → Ok tt ≡ set_flaw w
   unfolding members_flaw
-  members_all h = ap (members_flaw lowest) (sym (pieces_none space w at h)) ∙ s
+  members_all h = ap (members_flaw lowest) (sym h) ∙ s
 
 -- ---- a field
-module _ (column : ℕ) (w : List ℕ) {t : List ℕ} (bared : t ≡ bare w) {r : Judged} where
+module _ (column : ℕ) (w : List ℕ) {t : List ℕ} (bared : t ≡ bare w) {r : Result Unit Flaw} where
   pub field_number : column < 3 → r ≡ number_flaw t → r ≡ field_flaw column w
   unfolding field_flaw
   field_number h e = at_true _ (lt-ltb column 3 h) (e ∙ ap number_flaw bared)
@@ -78,37 +64,28 @@ module _ (column : ℕ) (w : List ℕ) {t : List ℕ} (bared : t ≡ bare w) {r 
 
 -- ---- the fields of a line
 abbrev pub FieldsLeft : List ℕ → ℕ → ℕ → Type 0
-FieldsLeft line at column = fields_fault column (pieces_from comma line at) ≡ fields_fault 0 (pieces comma line)
+FieldsLeft line i column = fields_fault column (drop i (pieces comma line)) ≡ fields_fault 0 (pieces comma line)
 
-pub fields_start : (line : List ℕ) → FieldsLeft line 0 0
-fields_start line = ap (fields_fault 0) (pieces_start comma line)
-
-module _ (line : List ℕ) (at column : ℕ) (s : FieldsLeft line at column) where
-  module _ (inside : at ≤ length line) where
+module _ (line : List ℕ) (i column : ℕ) (s : FieldsLeft line i column) where
+  module _ {field : List ℕ} (at : drop i (pieces comma line) ≡ field ∷ drop (i + 1) (pieces comma line)) where
     pub fields_more : columns ≤ column → MoreFields ≡ fields_fault 0 (pieces comma line)
     unfolding fields_fault
-    fields_more h =
-        at_false _ (le-ltb column columns h) refl
-        ∙ ap (fields_fault column) (sym (pieces_next comma line at (at + up_to comma (drop at line)) inside refl))
-        ∙ s
+    fields_more h = at_false _ (le-ltb column columns h) refl ∙ ap (fields_fault column) (sym at) ∙ s
 
-    module _ (here : column < columns) {end : ℕ} (found : end ≡ at + up_to comma (drop at line)) {j : Judged} (judged : j ≡ field_flaw column (take (end - at) (drop at line))) where
-      later : column_then column j (fields_fault (suc column) (pieces_from comma line (end + 1))) ≡ fields_fault 0 (pieces comma line)
+    module _ (here : column < columns) where
+      later : column_then column (field_flaw column field) (fields_fault (suc column) (drop (i + 1) (pieces comma line))) ≡ fields_fault 0 (pieces comma line)
       unfolding fields_fault
-      later =
-          at_true MoreFields (lt-ltb column columns here) (ap (λ (x : Judged). column_then column x (fields_fault (suc column) (pieces_from comma line (end + 1)))) judged)
-          ∙ ap (fields_fault column) (sym (pieces_next comma line at end inside found))
-          ∙ s
+      later = at_true MoreFields (lt-ltb column columns here) refl ∙ ap (fields_fault column) (sym at) ∙ s
 
-      pub fields_wrong : {f : Flaw} → j ≡ Wrong f → Column column f ≡ fields_fault 0 (pieces comma line)
-      fields_wrong e = rw e at later
+      pub fields_wrong : {f : Flaw} → Err f ≡ field_flaw column field → Column column f ≡ fields_fault 0 (pieces comma line)
+      fields_wrong e = rw (sym e) at later
 
-      pub fields_next : j ≡ Fine → FieldsLeft line (end + 1) (column + 1)
-      fields_next e = ap (λ (c : ℕ). fields_fault c (pieces_from comma line (end + 1))) (add-one column) ∙ rw e at later
+      pub fields_next : Ok tt ≡ field_flaw column field → FieldsLeft line (i + 1) (column + 1)
+      fields_next e = ap (λ (c : ℕ). fields_fault c (drop (i + 1) (pieces comma line))) (add-one column) ∙ rw (sym e) at later
 
-  module _ (behind : length line < at) where
+  module _ (behind : drop i (pieces comma line) ≡ []) where
     ended : fields_fault column [] ≡ fields_fault 0 (pieces comma line)
-    ended = ap (fields_fault column) (sym (pieces_none comma line at behind)) ∙ s
+    ended = ap (fields_fault column) (sym behind) ∙ s
 
     pub fields_missing : column < columns → Column column Missing ≡ fields_fault 0 (pieces comma line)
     unfolding fields_fault

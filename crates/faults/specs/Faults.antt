@@ -1,11 +1,10 @@
 -- What is wrong with a line of a file of waits that is refused, the first thing that is. Assumes nothing.
-use Rattle.std.specs.Prelude.{Bool, cond, not, ◌&&◌, List, [], ◌∷◌, ℕ, suc, ◌-◌, ltb, eqb, length, get_or, take}
+use Rattle.std.specs.Prelude.{Bool, cond, not, ◌&&◌, List, [], ◌∷◌, ℕ, suc, ◌-◌, ltb, eqb, length, get_or, take, Result, Ok, Err}
 use Rattle.lemmas.specs.Lists.{any_of}
 use Rattle.format.specs.Cut.{comma, lf, pieces, lines_of}
 use Rattle.format.specs.Fields.{bare, same}
+use Rattle.faults.specs.declared.flaws.Flaw.{Flaw}
 use Rattle.faults.specs.declared.flaws.Flaw.TheVariants.{Missing}
-use Rattle.faults.specs.declared.flaws.Judged.{Judged}
-use Rattle.faults.specs.declared.flaws.Judged.TheVariants.{Fine, Wrong}
 use Rattle.faults.specs.declared.Fault.{Fault}
 use Rattle.faults.specs.declared.Fault.TheVariants.{EmptyFile, Mark, NoHeader, BareLf, Semicolons, Column, MoreFields, NotNext}
 use Rattle.faults.specs.Flaws.{number_flaw, set_flaw}
@@ -39,12 +38,12 @@ abbrev pub columns : ℕ
 columns = 7
 
 -- the first three columns are numbers, and then come sets
-unfoldable pub field_flaw : (column : ℕ) → List ℕ → Judged
+unfoldable pub field_flaw : (column : ℕ) → List ℕ → Result Unit Flaw
 field_flaw column w = cond (ltb column 3) (number_flaw (bare w)) (set_flaw (bare w))
 
-abbrev pub column_then : ℕ → Judged → Fault → Fault
-column_then column Fine later = later
-column_then column (Wrong f) later = Column column f
+abbrev pub column_then : ℕ → Result Unit Flaw → Fault → Fault
+column_then column (Ok u) later = later
+column_then column (Err f) later = Column column f
 
 -- the fields from a column on; if all columns are there and fine, and no field more, its node isn't the next
 unfoldable pub fields_fault : (column : ℕ) → List (List ℕ) → Fault

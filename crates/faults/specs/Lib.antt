@@ -1,4 +1,3 @@
--- What is wrong with a field and with a line of a file of waits, and where a line stands.
+-- What is wrong with a field and with a line of a file of waits.
 pub mod Flaws
-pub mod Parts
 pub mod Faults

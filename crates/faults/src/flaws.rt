@@ -1,13 +1,14 @@
 // What is wrong with a field: a number, or a set.
-ghost use Rattle.std.specs.Prelude.{◌≡◌};
+ghost use Rattle.std.specs.Prelude.{◌≡◌, ◌<◌, IfOk};
 ghost use Rattle.lemmas.specs.Lists.{any_of};
+ghost use Rattle.nodes.specs.Words.{places};
 ghost use Rattle.format.specs.Fields.{no_digit};
 ghost use Rattle.faults.specs.Flaws.{number_flaw, member_in, set_flaw};
 
-use fields::{Numbered, find, number_in};
+use fields::number_in;
 use nodes::PLACES;
 
-#[derive(Clone, Copy)]
+#[derive(Clone, Copy, Debug, PartialEq, Eq)]
 pub enum Flaw {
     // The line has too few fields.
     Missing,
@@ -24,95 +25,66 @@ pub enum Flaw {
     Descends,
 }
 
-#[derive(Clone, Copy)]
-pub enum Judged {
-    Fine,
-    Wrong(Flaw),
-}
-
-#[derive(Clone, Copy)]
-pub enum Member {
-    Is(u64),
-    IsNot(Flaw),
-}
-
 // Whether some byte is no digit.
 fn strange_in(w: &[u8]) -> bool
     ensures { result ≡ any_of no_digit w.now }
 {
-    let mut i: usize = 0;
-    while i < w.len() {
-        if w[i] < b'0' {
-            return true;
-        }
-        if b'9' < w[i] {
-            return true;
-        }
-        i += 1;
-    }
-    false
+    w.iter().any(|b| !b.is_ascii_digit())
 }
 
 // What is wrong with a number.
-pub fn number_flaw(w: &[u8]) -> Judged
+pub fn number_flaw(w: &[u8]) -> Result<(), Flaw>
     ensures { result ≡ number_flaw w.now }
 {
     if w.len() == 0 {
-        return Judged::Wrong(Flaw::Empty);
+        return Err(Flaw::Empty);
     }
     if strange_in(w) {
-        return Judged::Wrong(Flaw::NoDigit);
+        return Err(Flaw::NoDigit);
     }
-    let n = number_in(w);
-    match n {
-        Numbered::NoNumber => Judged::Wrong(Flaw::PastBits),
-        Numbered::Number(v) => Judged::Fine,
+    match number_in(w) {
+        Some(_) => Ok(()),
+        None => Err(Flaw::PastBits),
     }
 }
 
 // The member that a piece of text is, or what is wrong with it.
-fn member_in(w: &[u8], lowest: u64) -> Member
-    ensures { result ≡ member_in lowest w.now }
+fn member_in(w: &[u8], lowest: u64) -> Result<u64, Flaw>
+    ensures is { result ≡ member_in lowest w.now }
+    ensures placed { IfOk result (λ m. m < places) }
 {
     if w.len() == 0 {
-        return Member::IsNot(Flaw::Spaces);
+        return Err(Flaw::Spaces);
     }
     if strange_in(w) {
-        return Member::IsNot(Flaw::Strange);
+        return Err(Flaw::Strange);
     }
-    let n = number_in(w);
-    let Numbered::Number(m) = n else {
-        return Member::IsNot(Flaw::NoPlace);
+    let Some(m) = number_in(w) else {
+        return Err(Flaw::NoPlace);
     };
     if PLACES as u64 <= m {
-        return Member::IsNot(Flaw::NoPlace);
+        return Err(Flaw::NoPlace);
     }
     if m + 1 == lowest {
-        return Member::IsNot(Flaw::Twice);
+        return Err(Flaw::Twice);
     }
     if m < lowest {
-        return Member::IsNot(Flaw::Descends);
+        return Err(Flaw::Descends);
     }
-    Member::Is(m)
+    Ok(m)
 }
 
 // What is wrong with a set, of its first piece that is wrong.
-pub fn set_flaw(w: &[u8]) -> Judged
+pub fn set_flaw(w: &[u8]) -> Result<(), Flaw>
     ensures { result ≡ set_flaw w.now }
 {
     if w.len() == 0 {
-        return Judged::Fine;
+        return Ok(());
     }
     let mut lowest: u64 = 0;
-    let mut at: usize = 0;
-    while at <= w.len() {
-        let end = find(w, at, b' ');
-        let n = member_in(&w[at..end], lowest);
-        match n {
-            Member::IsNot(f) => return Judged::Wrong(f),
-            Member::Is(m) => lowest = m + 1,
-        }
-        at = end + 1;
+    for piece in w.split(|b| *b == b' ') {
+        let m = member_in(piece, lowest)?;
+        lowest = m + 1;
     }
-    Judged::Fine
+    Ok(())
 }

@@ -6,8 +6,8 @@ ghost use Rattle.format.specs.Cut.{comma, pieces};
 ghost use Rattle.faults.specs.Faults.{line_fault, header_fault, field_flaw, fields_fault, row_fault, fault_of};
 
 use crate::finding::{has, line_at, marked};
-use crate::flaws::{Judged, number_flaw, set_flaw};
-use fields::{bare, find};
+use crate::flaws::{number_flaw, set_flaw};
+use fields::bare;
 
 mod finding;
 mod flaws;
@@ -19,7 +19,7 @@ const NUMBERS: usize = 3;
 
 const COLUMNS: usize = 7;
 
-#[derive(Clone, Copy)]
+#[derive(Clone, Copy, Debug, PartialEq, Eq)]
 pub enum Fault {
     // Line 1: there is none, it has a byte-order mark in front, it is no header.
     EmptyFile,
@@ -60,42 +60,33 @@ fn header_fault(file: &[u8]) -> Fault
     if marked(file) {
         return Fault::Mark;
     }
-    let part = line_at(file, 0);
-    let start = part.start;
-    let end = part.end;
-    line_fault(&file[start..end], Fault::NoHeader)
+    line_fault(line_at(file, 0), Fault::NoHeader)
 }
 
 // What is wrong with the field of a column.
-fn field_flaw(w: &[u8], column: usize) -> Judged
+fn field_flaw(w: &[u8], column: usize) -> Result<(), Flaw>
     ensures { result ≡ field_flaw column w.now }
 {
-    let part = bare(w);
-    let start = part.start;
-    let end = part.end;
+    let bared = bare(w);
     if column < NUMBERS {
-        return number_flaw(&w[start..end]);
+        return number_flaw(bared);
     }
-    set_flaw(&w[start..end])
+    set_flaw(bared)
 }
 
 // What is wrong with the fields of a line.
 fn fields_fault(line: &[u8]) -> Fault
     ensures { result ≡ fields_fault 0 (pieces comma line.now) }
 {
-    let mut at: usize = 0;
     let mut column: usize = 0;
-    while at <= line.len() {
+    for field in line.split(|b| *b == b',') {
         if COLUMNS <= column {
             return Fault::MoreFields;
         }
-        let end = find(line, at, b',');
-        let judged = field_flaw(&line[at..end], column);
-        if let Judged::Wrong(f) = judged {
+        if let Err(f) = field_flaw(field, column) {
             return Fault::Column(column, f);
         }
         column += 1;
-        at = end + 1;
     }
     if column < COLUMNS {
         return Fault::Column(column, Flaw::Missing);
@@ -118,8 +109,5 @@ pub fn fault_of(file: &[u8], line: usize) -> Fault
     if line < 2 {
         return header_fault(file);
     }
-    let part = line_at(file, line - 1);
-    let start = part.start;
-    let end = part.end;
-    row_fault(&file[start..end])
+    row_fault(line_at(file, line - 1))
 }

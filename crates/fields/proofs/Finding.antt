@@ -10,6 +10,7 @@ use lib.Dec.{eqb, ltb}
 use lib.ListN.{length, get_or, take, drop, drop_of_length-le, length-drop}
 use lib.Seq.{drop-cons, drop-drop}
 use borrow.Author.Tests.{eq-eqb, ne_eqb, le-leb, lt-leb, ltb-true, ltb-false}
+use Rattle.std.specs.List.{slice_split}
 use Rattle.lemmas.proofs.Cases.{at_true, at_false}
 use Rattle.lemmas.proofs.Tests.{true_or_false}
 use Rattle.format.specs.Cut.{line_end, onto, pieces, lines_of}
@@ -110,6 +111,23 @@ module _ (b : ℕ) (l : List ℕ) where
           later_none b (drop from l) (omega (arith, ltb-false end (length l) t, length-drop from l))
           ∙ sym (pieces_none (end + 1) (omega (arith, ltb-false end (length l) t))))
           (true_or_false (ltb end (length l)))
+
+-- ---- the pieces, as a split gives them
+pub split_pieces : (b : ℕ) (l : List ℕ) → slice_split (λ x. eqb x b) l ≡ pieces b l
+unfolding pieces
+split_pieces b [] = refl
+split_pieces b (x ∷ l) = ap (λ (ps : List (List ℕ)). cond (eqb x b) ([] ∷ ps) (onto x ps)) (split_pieces b l)
+
+-- at a turn of a loop over them, the piece and those behind it; after the last turn, none
+pub split_turn : (b : ℕ) (l : List ℕ) {i : ℕ} {piece : List ℕ} → (i < length (slice_split (λ x. eqb x b) l)) × (piece ≡ get_or (slice_split (λ x. eqb x b) l) i piece)
+    → drop i (pieces b l) ≡ piece ∷ drop (i + 1) (pieces b l)
+split_turn b l {i} {piece} h =
+    ap (drop i) (sym (split_pieces b l)) ∙ drop-cons (slice_split (λ x. eqb x b) l) i piece h.0
+    ∙ ap₂ (λ (p : List ℕ) (k : ℕ). p ∷ drop k (slice_split (λ x. eqb x b) l)) (sym h.1) (sym (add-one i))
+    ∙ ap (λ (ps : List (List ℕ)). piece ∷ drop (i + 1) ps) (split_pieces b l)
+
+pub split_end : (b : ℕ) (l : List ℕ) {i : ℕ} → i ≡ length (slice_split (λ x. eqb x b) l) → drop i (pieces b l) ≡ []
+split_end b l {i} e = ap (drop i) (sym (split_pieces b l)) ∙ drop_of_length-le (slice_split (λ x. eqb x b) l) (omega arith)
 
 -- ---- CR LF
 short_end : (l : List ℕ) → length l ≤ 1 → up_to_end l ≡ length l

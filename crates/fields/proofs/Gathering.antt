@@ -6,11 +6,12 @@ use mathlib.Core.List.Memᴰ
 use mathlib.Core.List.{List, [], ◌∷◌, ◌++◌, append_assoc, append-nil, Memᴰ}
 use mathlib.Core.List.Memᴰ.{head as here}
 use mathlib.Core.List.Memᴰ.{tail as there}
-use mathlib.Core.Option.{Option, none, some}
+use mathlib.Core.Option.{Option as Maybe, none, some}
+use Rattle.std.specs.Prelude.{Some, None}
 use Prim.Native.Nat.{ℕ, ◌+◌, ◌-◌, ◌≤◌, ◌<◌}
 use native.Mathlib.Omega.{arith}
 use lib.Dec.{leb, ltb}
-use lib.ListN.{length, take, drop}
+use lib.ListN.{length, drop}
 use borrow.Author.Tests.{le-leb, lt-leb, lt-ltb, le-ltb, leb-true, leb-false, ltb-true, ltb-false}
 use Rattle.lemmas.specs.Lists.{any_of, Ascending, ascending}
 use Rattle.lemmas.proofs.Any.{any_append, some_any}
@@ -22,82 +23,78 @@ use Rattle.nodes.specs.Sets.{with, set_of}
 use Rattle.nodes.specs.Words.{places, num, as_set}
 use Rattle.nodes.proofs.Gather.{list_snoc}
 use Rattle.nodes.proofs.Words.{as_num}
-use Rattle.format.specs.Cut.{space}
+use Rattle.format.specs.Cut.{space, pieces}
 use Rattle.format.specs.Fields.{number_of, in_front, numbers_of, members_of, no_set, set_of_these, set_in}
-use Rattle.fields.specs.declared.numbers.Numbered.TheVariants.{NoNumber, Number}
-use Rattle.fields.specs.declared.sets.Gathered.TheVariants.{NoSet, Members}
-use Rattle.fields.specs.Ends.{up_to, pieces_from}
 use Rattle.fields.specs.Answers.{numbered, member_of, gathered}
-use Rattle.fields.proofs.Finding.{pieces_start, pieces_none, pieces_next}
-use Rattle.fields.proofs.Told.{no_number_lem, same_number, told_none, told_number}
+use Rattle.fields.proofs.Told.{none_not, same_number, told_none, told_number}
 
 -- ---- one member
 module _ (lowest : ℕ) where
-  pub member_none : (o : Option ℕ) → NoNumber ≡ numbered o → NoNumber ≡ member_of lowest o
+  pub member_none : (o : Maybe ℕ) → None ≡ numbered o → None ≡ member_of lowest o
   unfolding member_of
   member_none o e = ap (member_of lowest) (sym (told_none o e))
 
   module _ {m : ℕ} where
-    so : (o : Option ℕ) → Number m ≡ numbered o → member_of lowest (some m) ≡ member_of lowest o
+    so : (o : Maybe ℕ) → Some m ≡ numbered o → member_of lowest (some m) ≡ member_of lowest o
     so o e = ap (member_of lowest) (sym (told_number o e))
 
-    pub member_low : (o : Option ℕ) → Number m ≡ numbered o → m < lowest → NoNumber ≡ member_of lowest o
+    pub member_low : (o : Maybe ℕ) → Some m ≡ numbered o → m < lowest → None ≡ member_of lowest o
     unfolding member_of
-    member_low o e h = at_false (Number m) (and_first (ltb m places) (lt-leb lowest m h)) refl ∙ so o e
+    member_low o e h = at_false (Some m) (and_first (ltb m places) (lt-leb lowest m h)) refl ∙ so o e
 
-    pub member_high : (o : Option ℕ) → Number m ≡ numbered o → places ≤ m → NoNumber ≡ member_of lowest o
+    pub member_high : (o : Maybe ℕ) → Some m ≡ numbered o → places ≤ m → None ≡ member_of lowest o
     unfolding member_of
-    member_high o e h = at_false (Number m) (and_later (leb lowest m) (le-ltb m places h)) refl ∙ so o e
+    member_high o e h = at_false (Some m) (and_later (leb lowest m) (le-ltb m places h)) refl ∙ so o e
 
-    pub member_is : (o : Option ℕ) → Number m ≡ numbered o → lowest ≤ m → m < places → Number m ≡ member_of lowest o
+    pub member_is : (o : Maybe ℕ) → Some m ≡ numbered o → lowest ≤ m → m < places → Some m ≡ member_of lowest o
     unfolding member_of
-    member_is o e l h = at_true NoNumber (and_intro (leb lowest m) (ltb m places) (le-leb lowest m l) (lt-ltb m places h)) refl ∙ so o e
+    member_is o e l h = at_true None (and_intro (leb lowest m) (ltb m places) (le-leb lowest m l) (lt-ltb m places h)) refl ∙ so o e
 
   -- ---- and back
-  wrong_member : (m : ℕ) → NoNumber ≡ member_of lowest (some m) → (m < lowest) ⊎ (places ≤ m)
+  wrong_member : (m : ℕ) → None ≡ member_of lowest (some m) → (m < lowest) ⊎ (places ≤ m)
   unfolding member_of
   wrong_member m e =
       ⊎_elim
       (λ (l : leb lowest m ≡ true).
       ⊎_elim
       (λ (h : ltb m places ≡ true).
-      no_number_lem (e ∙ sym (at_true NoNumber (and_intro (leb lowest m) (ltb m places) l h) refl)))
+      absurd (none_not (e ∙ sym (at_true None (and_intro (leb lowest m) (ltb m places) l h) refl))))
       (λ (h : ltb m places ≡ false). inr (ltb-false m places h))
       (true_or_false (ltb m places)))
       (λ (l : leb lowest m ≡ false). inl (leb-false lowest m l))
       (true_or_false (leb lowest m))
 
-  record Right (m : ℕ) (o : Option ℕ) : Type 0 where
+  record Right (m : ℕ) (o : Maybe ℕ) : Type 0 where
     pub is : o ≡ some m
     pub above : lowest ≤ m
     pub placed : m < places
 
-  right_member : (m : ℕ) (o : Option ℕ) → Number m ≡ member_of lowest o → Right m o
+  right_member : (m : ℕ) (o : Maybe ℕ) → Some m ≡ member_of lowest o → Right m o
   unfolding member_of
-  right_member m none e = no_number_lem (sym e)
+  right_member m none e = absurd (none_not (sym e))
   right_member m (some n) e =
       ⊎_elim
       (λ (l : leb lowest n ≡ true).
       ⊎_elim
       (λ (h : ltb n places ≡ true).
-      let q : m ≡ n = same_number (e ∙ sym (at_true NoNumber (and_intro (leb lowest n) (ltb n places) l h) refl)) in
+      let q : m ≡ n = same_number (e ∙ sym (at_true None (and_intro (leb lowest n) (ltb n places) l h) refl)) in
       record { is = ap some (sym q); above = omega (arith, leb-true lowest n l); placed = omega (arith, ltb-true n places h) })
-      (λ (h : ltb n places ≡ false). no_number_lem (at_false (Number n) (and_later (leb lowest n) h) refl ∙ sym e))
+      (λ (h : ltb n places ≡ false). absurd (none_not (at_false (Some n) (and_later (leb lowest n) h) refl ∙ sym e)))
       (true_or_false (ltb n places)))
-      (λ (l : leb lowest n ≡ false). no_number_lem (at_false (Number n) (and_first (ltb n places) l) refl ∙ sym e))
+      (λ (l : leb lowest n ≡ false). absurd (none_not (at_false (Some n) (and_first (ltb n places) l) refl ∙ sym e)))
       (true_or_false (leb lowest n))
 
 -- ---- members that come behind others
-pub prepend : List ℕ → Option (List ℕ) → Option (List ℕ)
+pub prepend : List ℕ → Maybe (List ℕ) → Maybe (List ℕ)
 prepend d none = none
 prepend d (some ms) = some (d ++ ms)
 
-prepend_none : (o : Option (List ℕ)) → o ≡ prepend [] o
+prepend_none : (o : Maybe (List ℕ)) → o ≡ prepend [] o
 unfolding prepend
 prepend_none none = refl
 prepend_none (some ms) = refl
 
-prepend_one : (d : List ℕ) (m : ℕ) (o : Option (List ℕ)) → prepend d (in_front (some m) o) ≡ prepend (d ++ m ∷ []) o
+prepend_one : (d : List ℕ) (m : ℕ) (o : Maybe (List ℕ)) → prepend d (in_front (some m) o) ≡ prepend (d ++ m ∷ []) o
 unfolding prepend
 prepend_one d m none = refl
 prepend_one d m (some ms) = ap some (sym (append_assoc d (m ∷ []) ms))
@@ -123,7 +120,7 @@ module _ (d : List ℕ) (m : ℕ) where
       (some_any (leb places) (d ++ m ∷ ms) m (Memᴰ.append_right d (here refl)) (le-leb places m h))
 
   -- such a list is refused, whatever follows
-  refused_so : ((ms : List ℕ) → no_set (d ++ m ∷ ms) ≡ true) → (o : Option (List ℕ)) → none ≡ set_of_these (prepend d (in_front (some m) o))
+  refused_so : ((ms : List ℕ) → no_set (d ++ m ∷ ms) ≡ true) → (o : Maybe (List ℕ)) → none ≡ set_of_these (prepend d (in_front (some m) o))
   unfolding prepend
   refused_so h none = refl
   refused_so h (some ms) = at_true (some (set_of (d ++ m ∷ ms))) (h ms) refl
@@ -134,29 +131,28 @@ is_set d a p =
     let no : no_set d ≡ false = rw (ascending_test d a) p in
     at_false none no refl
 
--- ---- on the way: the members that were read, and those that are left
-pub numbers_left : List ℕ → ℕ → Option (List ℕ)
-numbers_left w at = numbers_of (pieces_from space w at)
+-- ---- on the way: the members that were read, of so many pieces, and those that are left
+pub numbers_left : List ℕ → ℕ → Maybe (List ℕ)
+numbers_left w i = numbers_of (drop i (pieces space w))
 
-pub record Gathering (w : List ℕ) (s : Set) (lowest at : ℕ) : Type 0 where
+pub record Gathering (w : List ℕ) (s : Set) (lowest i : ℕ) : Type 0 where
   pub done : List ℕ
-  pub left : members_of w ≡ prepend done (numbers_left w at)
+  pub left : members_of w ≡ prepend done (numbers_left w i)
   pub set : num s ≡ set_of done
   pub ascends : Ascending done
   pub placed : any_of (leb places) done ≡ false
   pub below : (b : ℕ) → Memᴰ b done → b < lowest
   pub last : (lowest ≡ 0) ⊎ Memᴰ (lowest - 1) done
-  pub inside : at ≤ length w + 1
 
-pub set_empty : (w : List ℕ) (s : Set) → length w ≡ 0 → num s ≡ 0 → Members s ≡ gathered (set_in w)
+pub set_empty : (w : List ℕ) (s : Set) → length w ≡ 0 → num s ≡ 0 → Some s ≡ gathered (set_in w)
 unfolding set_in members_of no_set set_of gathered
-set_empty [] s h e = ap Members (sym (as_num s) ∙ ap as_set e)
+set_empty [] s h e = ap Some (sym (as_num s) ∙ ap as_set e)
 set_empty (x ∷ w) s h e = absurd (omega arith)
 
 all_left : (w : List ℕ) → (length w ≡ 0 → ⊥) → members_of w ≡ prepend [] (numbers_left w 0)
 unfolding members_of numbers_left
 all_left [] h = absurd (h refl)
-all_left (x ∷ w) h = ap numbers_of (sym (pieces_start space (x ∷ w))) ∙ prepend_none (numbers_left (x ∷ w) 0)
+all_left (x ∷ w) h = prepend_none (numbers_left (x ∷ w) 0)
 
 pub gathering_start : (w : List ℕ) (s : Set) → (length w ≡ 0 → ⊥) → num s ≡ 0 → Gathering w s 0 0
 unfolding set_of
@@ -168,17 +164,16 @@ gathering_start w s h e = record {
   placed = refl;
   below = λ b i. absurd (elim i [ ]);
   last = inl refl;
-  inside = omega arith;
 }
 
-module _ (w : List ℕ) (s : Set) (lowest at : ℕ) (g : Gathering w s lowest at) where
+module _ (w : List ℕ) (s : Set) (lowest i : ℕ) (g : Gathering w s lowest i) where
   -- the member at this place
-  module _ {end : ℕ} (found : end ≡ at + up_to space (drop at w)) (inside : at ≤ length w) where
-    split : members_of w ≡ prepend g.done (in_front (number_of (take (end - at) (drop at w))) (numbers_left w (end + 1)))
+  module _ {piece : List ℕ} (at : drop i (pieces space w) ≡ piece ∷ drop (i + 1) (pieces space w)) where
+    split : members_of w ≡ prepend g.done (in_front (number_of piece) (numbers_left w (i + 1)))
     unfolding numbers_left numbers_of
-    split = g.left ∙ ap (λ (ps : List (List ℕ)). prepend g.done (numbers_of ps)) (pieces_next space w at end inside found)
+    split = g.left ∙ ap (λ (ps : List (List ℕ)). prepend g.done (numbers_of ps)) at
 
-    wrong_so : (o : Option ℕ) → NoNumber ≡ member_of lowest o → none ≡ set_of_these (prepend g.done (in_front o (numbers_left w (end + 1))))
+    wrong_so : (o : Maybe ℕ) → None ≡ member_of lowest o → none ≡ set_of_these (prepend g.done (in_front o (numbers_left w (i + 1))))
     unfolding prepend member_of
     wrong_so none e = refl
     wrong_so (some m) e =
@@ -191,25 +186,22 @@ module _ (w : List ℕ) (s : Set) (lowest at : ℕ) (g : Gathering w s lowest at
         g.last)
         (λ (h : places ≤ m). no_place g.done m h)
         (wrong_member lowest m e))
-        (numbers_left w (end + 1))
+        (numbers_left w (i + 1))
 
-    pub gathering_wrong : NoNumber ≡ member_of lowest (number_of (take (end - at) (drop at w))) → NoSet ≡ gathered (set_in w)
+    pub gathering_wrong : None ≡ member_of lowest (number_of piece) → None ≡ gathered (set_in w)
     unfolding set_in gathered
-    gathering_wrong e = ap gathered (wrong_so (number_of (take (end - at) (drop at w))) e ∙ ap set_of_these (sym split))
+    gathering_wrong e = ap gathered (wrong_so (number_of piece) e ∙ ap set_of_these (sym split))
 
-    module _ {m : ℕ} (e : Number m ≡ member_of lowest (number_of (take (end - at) (drop at w)))) where
-      right : Right lowest m (number_of (take (end - at) (drop at w)))
-      right = right_member lowest m (number_of (take (end - at) (drop at w))) e
+    module _ {m : ℕ} (e : Some m ≡ member_of lowest (number_of piece)) where
+      right : Right lowest m (number_of piece)
+      right = right_member lowest m (number_of piece) e
 
-      pub gathering_place : m < places
-      gathering_place = right.placed
-
-      pub gathering_next : {t : Set} → num t ≡ with (num s) m → end ≤ length w → Gathering w t (m + 1) (end + 1)
-      gathering_next f h = record {
+      pub gathering_next : {t : Set} → num t ≡ with (num s) m → Gathering w t (m + 1) (i + 1)
+      gathering_next f = record {
         done = g.done ++ m ∷ [];
         left =
-            split ∙ ap (λ (o : Option ℕ). prepend g.done (in_front o (numbers_left w (end + 1)))) right.is
-            ∙ prepend_one g.done m (numbers_left w (end + 1));
+            split ∙ ap (λ (o : Maybe ℕ). prepend g.done (in_front o (numbers_left w (i + 1)))) right.is
+            ∙ prepend_one g.done m (numbers_left w (i + 1));
         set = f ∙ ap (λ (x : ℕ). with x m) g.set ∙ list_snoc g.done m;
         ascends = ascending_snoc g.done m (λ b i. let q = g.below b i in omega (arith, right.above)) g.ascends;
         placed = any_append (leb places) g.done (m ∷ []) g.placed (rw (lt-leb places m right.placed) refl);
@@ -219,16 +211,15 @@ module _ (w : List ℕ) (s : Set) (lowest at : ℕ) (g : Gathering w s lowest at
             (λ (j : Memᴰ b (m ∷ [])). let q = Memᴰ.eq_of_singleton j in omega arith)
             (Memᴰ.append_cases g.done i);
         last = inr (Memᴰ.append_right g.done (here (let q : m + 1 - 1 ≡ m = omega arith in q)));
-        inside = omega arith;
       }
 
-  pub gathering_all : length w < at → Members s ≡ gathered (set_in w)
+  pub gathering_all : drop i (pieces space w) ≡ [] → Some s ≡ gathered (set_in w)
   unfolding set_in numbers_left numbers_of prepend gathered
   gathering_all h =
-      ap Members (sym (as_num s) ∙ ap as_set g.set)
+      ap Some (sym (as_num s) ∙ ap as_set g.set)
       ∙ ap gathered
       (is_set g.done g.ascends g.placed
       ∙ ap set_of_these
       (sym
-      (g.left ∙ ap (λ (ps : List (List ℕ)). prepend g.done (numbers_of ps)) (pieces_none space w at h)
+      (g.left ∙ ap (λ (ps : List (List ℕ)). prepend g.done (numbers_of ps)) h
       ∙ ap some (append-nil g.done))))

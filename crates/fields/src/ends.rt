@@ -8,14 +8,12 @@ pub fn find(s: &[u8], from: usize, b: u8) -> usize
     requires { from ≤ length s.now }
     ensures { (result ≡ from + up_to b (drop from s.now)) × (result ≤ length s.now) }
 {
-    let mut i = from;
-    while i < s.len() {
+    for i in from..s.len() {
         if s[i] == b {
             return i;
         }
-        i += 1;
     }
-    i
+    s.len()
 }
 
 // Whether CR LF stands at a place.
@@ -23,12 +21,10 @@ fn ends_at(s: &[u8], i: usize) -> bool
     requires { i + 1 < length s.now }
     ensures { result ≡ line_end (get_or s.now i 0) (get_or s.now (i + 1) 0) }
 {
-    let first = s[i];
-    let second = s[i + 1];
-    if first != b'\r' {
+    if s[i] != b'\r' {
         return false;
     }
-    second == b'\n'
+    s[i + 1] == b'\n'
 }
 
 // Where the first CR LF stands from a place on, or the end.
@@ -36,12 +32,11 @@ pub fn line_end(s: &[u8], from: usize) -> usize
     requires { from ≤ length s.now }
     ensures { (result ≡ from + up_to_end (drop from s.now)) × (result ≤ length s.now) }
 {
-    let mut i = from;
-    while i + 1 < s.len() {
+    // The last byte has no LF behind it.
+    for i in from..s.len().saturating_sub(1) {
         if ends_at(s, i) {
             return i;
         }
-        i += 1;
     }
     s.len()
 }

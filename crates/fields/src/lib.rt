@@ -7,6 +7,6 @@ mod sets;
 mod words;
 
 pub use ends::{find, line_end};
-pub use numbers::{Numbered, number_in};
-pub use sets::{Gathered, set_in};
-pub use words::{Part, bare, same};
+pub use numbers::number_in;
+pub use sets::set_in;
+pub use words::{bare, same};

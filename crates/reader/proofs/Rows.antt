@@ -8,12 +8,12 @@ use lib.ListN.{length}
 use borrow.Author.Tests.{eq-eqb, ne_eqb}
 use Rattle.lemmas.proofs.Cases.{at_true, at_false}
 use Rattle.lemmas.proofs.Tests.{and_intro, and_first, and_later}
+use Rattle.std.specs.Prelude.{Some, None}
 use Rattle.text.specs.Words.{word}
 use Rattle.format.specs.Fields.{number_of, set_in, word_in, Taken, next, done}
 use Rattle.format.specs.Files.{fields, is_header, row_of}
-use Rattle.reader.specs.declared.places.NumberAt.{NumberAt}
-use Rattle.reader.specs.declared.places.SetAt.{SetAt}
-use Rattle.reader.specs.declared.lines.RowRead.TheVariants.{NoRow, IsRow}
+use Rattle.nodes.specs.declared.Set.{Set}
+use Rattle.reader.specs.declared.places.At.{At}
 use Rattle.reader.specs.Places.{left, place_after, number_at, set_at}
 use Rattle.reader.specs.Answers.{row_said}
 use Rattle.reader.proofs.Taking.{left_start, done_at, rest_then, number_rest, number_value, set_rest, set_value}
@@ -38,7 +38,7 @@ module _ (line : List ℕ) where
       sym (done_at line g) ∙ ap done on7
 
 -- ---- a row: three numbers and four sets, and then nothing is left
-module _ (line : List ℕ) (k : ℕ) {node kind threshold : NumberAt} {set1 set2 set3 set4 : SetAt}
+module _ (line : List ℕ) (k : ℕ) {node kind threshold : At ℕ} {set1 set2 set3 set4 : At Set}
     (n : node ≡ number_at line 0)
     (o : kind ≡ number_at line node.next)
     (p : threshold ≡ number_at line kind.next)
@@ -92,16 +92,16 @@ module _ (line : List ℕ) (k : ℕ) {node kind threshold : NumberAt} {set1 set2
     is_node : eqb taken1.value k ≡ eqb node.value k
     is_node = ap (λ (x : ℕ). eqb x k) (sym (number_value line _ (left_start line) n))
 
-    pub row_fields : (set4.next ≡ length line + 1 → ⊥) → NoRow ≡ row_said (row_of k line)
+    pub row_fields : (set4.next ≡ length line + 1 → ⊥) → None ≡ row_said (row_of k line)
     unfolding row_of row_said
     row_fields h = ap row_said (at_false _ (and_first (eqb taken1.value k) (all_taken ∙ ne_eqb set4.next (length line + 1) h)) refl)
 
-    pub row_node : (node.value ≡ k → ⊥) → NoRow ≡ row_said (row_of k line)
+    pub row_node : (node.value ≡ k → ⊥) → None ≡ row_said (row_of k line)
     unfolding row_of row_said
     row_node h = ap row_said (at_false _ (and_later (done taken7.rest) (is_node ∙ ne_eqb node.value k h)) refl)
 
     pub row_is : set4.next ≡ length line + 1 → node.value ≡ k
-        → IsRow
+        → Some
         (record {
           kind = kind.value;
           threshold = threshold.value;

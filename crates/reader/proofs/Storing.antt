@@ -3,7 +3,7 @@ use mathlib.Core.Path.{◌≡◌, refl, sym, ap, ap₂, ◌∙◌, subst}
 use mathlib.Core.Bool.{true, false, cond, not, ◌||◌}
 use mathlib.Core.Logic.{⊎_elim}
 use mathlib.Core.List.{List, [], ◌∷◌, ◌++◌, append_assoc, append-nil}
-use mathlib.Core.Option.{Option, none, some}
+use mathlib.Core.Option.{Option as Maybe, none, some}
 use Prim.Native.Nat.{ℕ, suc, ◌+◌, ◌-◌, ◌*◌, ◌≤◌, ◌<◌}
 use native.Mathlib.Numerals.{add-one}
 use native.Mathlib.Omega.{arith}
@@ -11,13 +11,13 @@ use lib.Dec.{eqb, ltb}
 use lib.ListN.{length, take, drop, length-append, length-replicate}
 use lib.Seq.{sets, take-nil}
 use borrow.Author.Tests.{lt-ltb, le-ltb, ltb-true, ltb-false}
+use Rattle.std.specs.Prelude.{Some, None, Result, Ok, Err}
 use Rattle.lemmas.proofs.Cases.{at_true, at_false}
 use Rattle.lemmas.proofs.Tests.{or_intro_left, or_intro_right, true_or_false}
 use Rattle.lemmas.proofs.Stores.{sets_append, sets_out, front_taken}
 use Rattle.nodes.specs.Words.{places}
 use Rattle.waits.specs.declared.rows.Row.{Row}
-use Rattle.waits.specs.declared.numbers.Checked.{Checked}
-use Rattle.waits.specs.declared.numbers.Checked.TheVariants.{Accepted, Refused as Checked-as-Refused}
+use Rattle.waits.specs.declared.numbers.Refusal.{Refusal}
 use Rattle.waits.specs.Rows.{row_size, row_numbers, flat}
 use Rattle.waits.specs.Numbers.{strange_count, wrong_count, check_of}
 use Rattle.waits.proofs.Flat.{flat_length, flat_snoc}
@@ -28,28 +28,18 @@ use Rattle.format.specs.Files.Said.{Line}
 use Rattle.format.proofs.Open.{open_format}
 use Rattle.fields.specs.Ends.{up_to_end}
 use Rattle.fields.proofs.Finding.{lines_next, lines_none}
-use Rattle.reader.specs.declared.lines.RowRead.TheVariants.{NoRow, IsRow}
-use Rattle.reader.specs.declared.files.Lines.{Lines}
-use Rattle.reader.specs.declared.files.Lines.TheVariants.{Broken as Lines-as-Broken, Rows as Lines-as-Rows}
-use Rattle.reader.specs.declared.files.Outcome.TheVariants.{Graph as Outcome-as-Graph}
 use Rattle.reader.specs.Answers.{row_said, numbers, LinesSay, zeros, file_said, checked_as, graph_judged}
 
 -- ---- what an answer tells of a line
-no_row : {A : Type 0} {r : Row} → NoRow ≡ IsRow r → A
-no_row e = absurd (let z : ◌≡◌ {A = ℕ} 0 1 = cc in omega arith)
-
-same_row : {q r : Row} → IsRow q ≡ IsRow r → q ≡ r
-same_row e = cc
-
-told_none : (o : Option Row) → NoRow ≡ row_said o → o ≡ none
+told_none : (o : Maybe Row) → None ≡ row_said o → o ≡ none
 unfolding row_said
 told_none none e = refl
-told_none (some r) e = no_row e
+told_none (some r) e = absurd cc
 
-told_row : {r : Row} (o : Option Row) → IsRow r ≡ row_said o → o ≡ some r
+told_row : {r : Row} (o : Maybe Row) → Some r ≡ row_said o → o ≡ some r
 unfolding row_said
-told_row none e = no_row (sym e)
-told_row (some q) e = ap some (sym (same_row e))
+told_row none e = absurd cc
+told_row (some q) e = cc
 
 -- ---- rows that come behind others
 pub behind : List Row → Meant → Meant
@@ -80,19 +70,19 @@ storing_start file from found = record { read = []; left = behind_none _; count 
 
 module _ (file : List ℕ) (from : ℕ) (found rows : List ℕ) (at k : ℕ) (s : Storing file from found rows at k) where
   module _ {end : ℕ} (inside : at < length file) (ends : end ≡ at + up_to_end (drop at file)) where
-    split : {o : Option Row} → row_of k (take (end - at) (drop at file)) ≡ o
+    split : {o : Maybe Row} → row_of k (take (end - at) (drop at file)) ≡ o
         → rows_from 0 (lines_of (drop from file)) ≡ behind s.read (row_then (k + 2) o (rows_from (suc k) (lines_of (drop (end + 2) file))))
     unfolding rows_from
     split e =
         s.left ∙ ap (λ (ls : List (List ℕ)). behind s.read (rows_from k ls)) (lines_next file at end inside ends)
-        ∙ ap (λ (o : Option Row). behind s.read (row_then (k + 2) o (rows_from (suc k) (lines_of (drop (end + 2) file))))) e
+        ∙ ap (λ (o : Maybe Row). behind s.read (row_then (k + 2) o (rows_from (suc k) (lines_of (drop (end + 2) file))))) e
 
-    pub storing_broken : NoRow ≡ row_said (row_of k (take (end - at) (drop at file)))
-        → LinesSay (rows_from 0 (lines_of (drop from file))) found rows (Lines-as-Broken (k + 2))
+    pub storing_broken : None ≡ row_said (row_of k (take (end - at) (drop at file)))
+        → LinesSay (rows_from 0 (lines_of (drop from file))) found rows (Err (k + 2))
     unfolding behind LinesSay
     storing_broken e = split (told_none _ e)
 
-    pub storing_next : {r : Row} {rows' : List ℕ} → IsRow r ≡ row_said (row_of k (take (end - at) (drop at file)))
+    pub storing_next : {r : Row} {rows' : List ℕ} → Some r ≡ row_said (row_of k (take (end - at) (drop at file)))
         → rows' ≡ sets rows (k * row_size) (row_numbers r) → Storing file from found rows' (end + 2) (k + 1)
     storing_next {r} e f = record {
       read = s.read ++ r ∷ [];
@@ -106,7 +96,7 @@ module _ (file : List ℕ) (from : ℕ) (found rows : List ℕ) (at k : ℕ) (s 
       few = omega (arith, s.few);
     }
 
-  pub storing_all : length file ≤ at → LinesSay (rows_from 0 (lines_of (drop from file))) found rows (Lines-as-Rows k)
+  pub storing_all : length file ≤ at → LinesSay (rows_from 0 (lines_of (drop from file))) found rows (Ok k)
   unfolding behind rows_from LinesSay
   storing_all h = (
     s.read,
@@ -135,21 +125,21 @@ first_line (x ∷ l) {end} ends =
     ∙ ap (λ (n : ℕ). take n (x ∷ l) ∷ lines_of (drop (end + 2) (x ∷ l))) (let q : end - 0 ≡ end = omega arith in q))
 
 module _ (file : List ℕ) {end : ℕ} (ends : end ≡ 0 + up_to_end (drop 0 file)) where
-  pub no_header : is_header (take end file) ≡ false → (found rows : List ℕ) → LinesSay (meant_by file) found rows (Lines-as-Broken 1)
+  pub no_header : is_header (take end file) ≡ false → (found rows : List ℕ) → LinesSay (meant_by file) found rows (Err 1)
   unfolding LinesSay
   no_header e found rows = first_line file ends ∙ sym (at_false (rows_from 0 (lines_of (drop (end + 2) file))) e refl)
 
   under : is_header (take end file) ≡ true → rows_from 0 (lines_of (drop (end + 2) file)) ≡ meant_by file
   under e = at_true (Broken 1) e refl ∙ sym (first_line file ends)
 
-  pub under_header_lem : is_header (take end file) ≡ true → (found rows : List ℕ) (a : Lines) → LinesSay (rows_from 0 (lines_of (drop (end + 2) file))) found rows a
+  pub under_header_lem : is_header (take end file) ≡ true → (found rows : List ℕ) (a : Result ℕ ℕ) → LinesSay (rows_from 0 (lines_of (drop (end + 2) file))) found rows a
       → LinesSay (meant_by file) found rows a
   unfolding LinesSay
-  under_header_lem e found rows (Lines-as-Broken line) s = sym (under e) ∙ s
-  under_header_lem e found rows (Lines-as-Rows n) s = (s.0, sym (under e) ∙ s.1, s.2, s.3)
+  under_header_lem e found rows (Err line) s = sym (under e) ∙ s
+  under_header_lem e found rows (Ok n) s = (s.0, sym (under e) ∙ s.1, s.2, s.3)
 
 -- ---- the graph
-one_said : (n : ℕ) (rows : List ℕ) → places < n → Checked-as-Refused (record { number = 1; row = record { 0 = 0 } }) ≡ check_of n rows
+one_said : (n : ℕ) (rows : List ℕ) → places < n → Err (record { number = 1; row = record { 0 = 0 } }) ≡ check_of n rows
 unfolding check_of wrong_count strange_count
 one_said n rows h =
     at_true _
@@ -160,12 +150,12 @@ one_said n rows h =
 module _ (n : ℕ) (rows stored : List ℕ) (count : length rows ≡ n * row_size) (front : stored ≡ sets zeros 0 rows) where
   many : places < n → graph_judged n stored ≡ file_said (judged n rows (check_of n rows))
   unfolding graph_judged file_said
-  many h = sym (at_true _ (lt-ltb places n h) refl) ∙ ap (λ (c : Checked). file_said (judged n rows c)) (one_said n rows h)
+  many h = sym (at_true _ (lt-ltb places n h) refl) ∙ ap (λ (c : Result Unit Refusal). file_said (judged n rows c)) (one_said n rows h)
 
-  checked_said : (c : Checked) → checked_as n stored c ≡ file_said (judged n rows c)
+  checked_said : (c : Result Unit Refusal) → checked_as n stored c ≡ file_said (judged n rows c)
   unfolding file_said
-  checked_said (Checked-as-Refused r) = refl
-  checked_said Accepted = λ i. record { outcome = Outcome-as-Graph; nodes = n; rows = front i }
+  checked_said (Err r) = refl
+  checked_said (Ok u) = λ i. Ok (record { nodes = n; rows = front i })
 
   few : n ≤ places → graph_judged n stored ≡ file_said (judged n rows (check_of n rows))
   unfolding graph_judged
@@ -185,15 +175,15 @@ module _ (n : ℕ) (rows stored : List ℕ) (count : length rows ≡ n * row_siz
       (true_or_false (ltb places n))
 
 -- ---- the file
-module _ (file left : List ℕ) {a : Lines} (s : LinesSay (meant_by file) zeros left a) where
-  pub file_broken : (line : ℕ) → a ≡ Lines-as-Broken line → file_said (Line line) ≡ file_said (read_of file)
+module _ (file left : List ℕ) {a : Result ℕ ℕ} (s : LinesSay (meant_by file) zeros left a) where
+  pub file_broken : (line : ℕ) → a ≡ Err line → file_said (Line line) ≡ file_said (read_of file)
   unfolding read_of LinesSay
-  file_broken line e = ap (λ (m : Meant). file_said (said_of m)) (sym (subst (λ (x : Lines). LinesSay (meant_by file) zeros left x) e s))
+  file_broken line e = ap (λ (m : Meant). file_said (said_of m)) (sym (subst (λ (x : Result ℕ ℕ). LinesSay (meant_by file) zeros left x) e s))
 
-  pub file_rows : (n : ℕ) → a ≡ Lines-as-Rows n → graph_judged n left ≡ file_said (read_of file)
+  pub file_rows : (n : ℕ) → a ≡ Ok n → graph_judged n left ≡ file_said (read_of file)
   unfolding read_of LinesSay
   file_rows n e =
-      let t = subst (λ (x : Lines). LinesSay (meant_by file) zeros left x) e s in
+      let t = subst (λ (x : Result ℕ ℕ). LinesSay (meant_by file) zeros left x) e s in
       judged_said n (flat t.0) left (omega (arith, flat_length t.0, t.2)) t.3
       ∙ ap (λ (k : ℕ). file_said (judged k (flat t.0) (check_of k (flat t.0)))) t.2
       ∙ ap (λ (m : Meant). file_said (said_of m)) (sym t.1)

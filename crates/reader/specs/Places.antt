@@ -1,25 +1,22 @@
 -- A place in a line stands for the fields that are left from there on. Assumes nothing.
 use Rattle.std.specs.Prelude.{cond, List, ℕ, ◌+◌, leb, length, take, drop}
 use Rattle.std.proofs.Math.Option.{Option, none, some}
+use Rattle.nodes.specs.declared.Set.{Set}
 use Rattle.nodes.specs.Words.{as_set}
 use Rattle.format.specs.Cut.{comma}
-use Rattle.format.specs.Fields.{number_of, set_in, Fields, next}
+use Rattle.format.specs.Fields.{bare, number_of, set_in, Fields, next}
 use Rattle.fields.specs.Ends.{up_to, pieces_from}
-use Rattle.fields.specs.Answers.{bare_at}
-use Rattle.reader.specs.declared.places.FieldAt.{FieldAt}
-use Rattle.reader.specs.declared.places.NumberAt.{NumberAt}
-use Rattle.reader.specs.declared.places.SetAt.{SetAt}
+use Rattle.reader.specs.declared.places.At.{At}
 
 -- one past the end no field is left, and further on something was wrong
 unfoldable pub left : List ℕ → ℕ → Fields
 left line from = cond (leb from (length line + 1)) (some (pieces_from comma line from)) none
 
--- the field at a place goes up to the next comma, or to the end: its part of the line without its quotes, and the place behind it
-unfoldable pub field_at : List ℕ → ℕ → FieldAt
+-- the field at a place goes up to the next comma, or to the end: it without its quotes, and the place behind it
+unfoldable pub field_at : List ℕ → ℕ → At (List ℕ)
 field_at line from =
     let long = up_to comma (drop from line) in
-    let part = bare_at (take long (drop from line)) in
-    record { start = from + part.start; end = from + part.end; next = from + long + 1 }
+    record { value = bare (take long (drop from line)); next = from + long + 1 }
 
 -- the place behind a field, if what is left behind it is known: two past the end once something was wrong
 abbrev pub place_for : List ℕ → ℕ → Fields → ℕ
@@ -31,8 +28,8 @@ unfoldable pub place_after : (List ℕ → Option ℕ) → List ℕ → ℕ → 
 place_after f line from = place_for line from (next f (left line from)).rest
 
 -- the number or the set that the field at a place is, and the place behind it
-unfoldable pub number_at : List ℕ → ℕ → NumberAt
+unfoldable pub number_at : List ℕ → ℕ → At ℕ
 number_at line from = record { value = (next number_of (left line from)).value; next = place_after number_of line from }
 
-unfoldable pub set_at : List ℕ → ℕ → SetAt
+unfoldable pub set_at : List ℕ → ℕ → At Set
 set_at line from = record { value = as_set (next set_in (left line from)).value; next = place_after set_in line from }

@@ -5,4 +5,4 @@ mod files;
 mod lines;
 mod places;
 
-pub use files::{File, Outcome, Told, read_file, told_as};
+pub use files::{File, Told, Wrong, read_file, told_as};

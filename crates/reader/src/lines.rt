@@ -6,12 +6,6 @@ ghost use Rattle.reader.specs.Answers.{row_said};
 use crate::places::{number_at, set_at, word_at};
 use waits::Row;
 
-#[derive(Clone, Copy)]
-pub enum RowRead {
-    NoRow,
-    IsRow(Row),
-}
-
 pub fn header(line: &[u8]) -> bool
     ensures { result ≡ is_header line.now }
 {
@@ -26,34 +20,29 @@ pub fn header(line: &[u8]) -> bool
 }
 
 // The row that a line says node k has.
-pub fn row(line: &[u8], k: usize) -> RowRead
+pub fn row(line: &[u8], k: usize) -> Option<Row>
     ensures { result ≡ row_said (row_of k line.now) }
 {
     let behind = line.len() + 1;
     let node = number_at(line, 0);
     let kind = number_at(line, node.next);
     let threshold = number_at(line, kind.next);
-    let a = set_at(line, threshold.next);
-    let b = set_at(line, a.next);
-    let c = set_at(line, b.next);
-    let d = set_at(line, c.next);
-    if d.next != behind {
-        return RowRead::NoRow;
+    let first = set_at(line, threshold.next);
+    let second = set_at(line, first.next);
+    let third = set_at(line, second.next);
+    let fourth = set_at(line, third.next);
+    if fourth.next != behind {
+        return None;
     }
     if node.value != k as u64 {
-        return RowRead::NoRow;
+        return None;
     }
-    let first = a.value;
-    let second = b.value;
-    let third = c.value;
-    let fourth = d.value;
-    let row = Row {
+    Some(Row {
         kind: kind.value,
         threshold: threshold.value,
-        first: first,
-        second: second,
-        third: third,
-        fourth: fourth,
-    };
-    RowRead::IsRow(row)
+        first: first.value,
+        second: second.value,
+        third: third.value,
+        fourth: fourth.value,
+    })
 }

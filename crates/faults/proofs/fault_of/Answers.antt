@@ -3,22 +3,12 @@ use mathlib.Core.Path.{ap, ◌∙◌}
 use borrow.Author.Tests.{lt-ltb, le-ltb}
 use Rattle.lemmas.proofs.Cases.{at_true, at_false}
 use Rattle.faults.specs.Faults.{row_fault, fault_of}
-use Rattle.faults.proofs.Standing.{found_line}
 use Rattle.faults.proofs.fault_of.Goals as goal
 
 pub returns-then-line-lt2 : goal.returns-then-line-lt2
 unfolding fault_of
 returns-then-line-lt2 c = at_true _ (lt-ltb _ 2 c.if-line-lt2.true) c.header_fault.ensures
 
-pub slice_bounds-row_fault-count : goal.slice_bounds-row_fault-count
-slice_bounds-row_fault-count c = (found_line _ _ c.line_at-part.ensures).order
-
-pub slice_bounds-row_fault-start : goal.slice_bounds-row_fault-start
-slice_bounds-row_fault-start c = (found_line _ _ c.line_at-part.ensures).order
-
-pub slice_bounds-row_fault-end : goal.slice_bounds-row_fault-end
-slice_bounds-row_fault-end c = (found_line _ _ c.line_at-part.ensures).inside
-
 pub returns : goal.returns
 unfolding fault_of
-returns c = at_false _ (le-ltb _ 2 c.if-line-lt2.false) (c.row_fault.ensures ∙ ap row_fault (found_line _ _ c.line_at-part.ensures).text)
+returns c = at_false _ (le-ltb _ 2 c.if-line-lt2.false) (c.row_fault.ensures ∙ ap row_fault c.line_at.ensures)

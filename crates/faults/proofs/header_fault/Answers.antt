@@ -6,7 +6,6 @@ use borrow.Author.Tests.{eq-eqb, ne_eqb}
 use Rattle.lemmas.proofs.Cases.{at_true, at_false, flag}
 use Rattle.faults.specs.Faults.{line_fault, header_fault}
 use Rattle.faults.specs.declared.Fault.TheVariants.{NoHeader}
-use Rattle.faults.proofs.Standing.{found_line}
 use Rattle.faults.proofs.header_fault.Goals as goal
 
 pub returns-then-file-eq0 : goal.returns-then-file-eq0
@@ -17,15 +16,6 @@ pub returns-then-marked : goal.returns-then-marked
 unfolding header_fault
 returns-then-marked c = at_false _ (ne_eqb _ 0 c.if-file-eq0.false) (at_true _ (flag c.marked.ensures c.if-marked.true) refl)
 
-pub slice_bounds-line_fault-count : goal.slice_bounds-line_fault-count
-slice_bounds-line_fault-count c = (found_line _ _ c.line_at-part.ensures).order
-
-pub slice_bounds-line_fault-start : goal.slice_bounds-line_fault-start
-slice_bounds-line_fault-start c = (found_line _ _ c.line_at-part.ensures).order
-
-pub slice_bounds-line_fault-end : goal.slice_bounds-line_fault-end
-slice_bounds-line_fault-end c = (found_line _ _ c.line_at-part.ensures).inside
-
 pub returns : goal.returns
 unfolding header_fault
-returns c = at_false _ (ne_eqb _ 0 c.if-file-eq0.false) (at_false _ (flag c.marked.ensures c.if-marked.false) (c.line_fault.ensures ∙ ap (λ (l : List ℕ). line_fault l NoHeader) (found_line _ _ c.line_at-part.ensures).text))
+returns c = at_false _ (ne_eqb _ 0 c.if-file-eq0.false) (at_false _ (flag c.marked.ensures c.if-marked.false) (c.line_fault.ensures ∙ ap (λ (l : List ℕ). line_fault l NoHeader) c.line_at.ensures))

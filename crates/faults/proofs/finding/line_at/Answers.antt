@@ -1,23 +1,15 @@
 -- `line_at` meets its contract. Assumes nothing.
-use mathlib.Core.Path.{refl}
-use native.Mathlib.Omega.{arith}
-use Rattle.faults.proofs.Standing.{ahead_here, ahead_next, ahead_none}
+use Rattle.faults.proofs.Standing.{ahead_start, ahead_here, ahead_next, ahead_none}
 use Rattle.faults.proofs.finding.line_at.Goals as goal
 
-pub loop-at-init : goal.loop-at-init
-loop-at-init c = refl
+pub loop-k-init : goal.loop-k-init
+loop-k-init c = ahead_start _ _
 
-pub returns-then-ahead-eq0 : goal.returns-then-ahead-eq0
-returns-then-ahead-eq0 c = ahead_here _ _ _ _ c.loop-at.invariant c.loop-at-test.true c.line_end-end.ensures.0 c.if-ahead-eq0.true
+pub returns-then-rest-end : goal.returns-then-rest-end
+returns-then-rest-end c = ahead_none _ _ _ _ c.loop-k.invariant c.line_end-end.ensures.0 c.loop-k-test.true c.if-rest-end.true
 
-pub overflow_add-at : goal.overflow_add-at
-overflow_add-at c = omega (arith, c.line_end-end.ensures.1)
-
-pub loop-at-smaller : goal.loop-at-smaller
-loop-at-smaller c = omega (arith, c.line_end-end.ensures.0, c.loop-at-test.true)
-
-pub loop-at-preserved : goal.loop-at-preserved
-loop-at-preserved c = ahead_next _ _ _ _ c.loop-at.invariant c.loop-at-test.true c.line_end-end.ensures.0 c.if-ahead-eq0.false
+pub loop-k-preserved : goal.loop-k-preserved
+loop-k-preserved c = ahead_next _ _ _ _ c.loop-k.invariant c.line_end-end.ensures.0 c.loop-k-test.true
 
 pub returns : goal.returns
-returns c = ahead_none _ _ _ _ c.loop-at.invariant c.loop-at-test.false
+returns c = ahead_here _ _ _ _ c.loop-k.invariant c.line_end.ensures.0 c.loop-k-test.false

@@ -1,29 +1,34 @@
 -- `set_flaw` meets its contract. Assumes nothing.
-use native.Mathlib.Omega.{arith}
-use borrow.Author.Rules.{rules}
-use Rattle.faults.proofs.Walking.{set_empty, members_start, member_wrong, member_placed, member_next, members_all}
+use mathlib.Core.Path.{sym, subst}
+use Prim.Native.Nat.{◌+◌}
+use Rattle.std.proofs.Common.{rules}
+use Rattle.std.proofs.lemmas.Iterator.Splits.{YieldsList-from_slice_split}
+use Rattle.std.proofs.lemmas.Iterator.Consumers.{YieldsList-turn, YieldsList-end}
+use Rattle.std.proofs.lemmas.List.{length_push}
+use Rattle.std.proofs.lemmas.Result.{err_from_is_err_and}
+use Rattle.fields.proofs.Finding.{split_turn, split_end}
+use Rattle.faults.proofs.Walking.{MembersLeft, set_empty, members_start, member_wrong, member_next, members_all}
 use Rattle.faults.proofs.flaws.set_flaw.Goals as goal
 
 pub returns-then-w-eq0 : goal.returns-then-w-eq0
 returns-then-w-eq0 c = set_empty _ c.if-w-eq0.true
 
-pub loop-at-init : goal.loop-at-init
-loop-at-init c = (search rules, members_start _ c.if-w-eq0.false)
+pub loop-piece-init : goal.loop-piece-init
+loop-piece-init c = members_start _ c.if-w-eq0.false
 
-pub returns-in-IsNot : goal.returns-in-IsNot
-returns-in-IsNot c = member_wrong _ _ _ c.loop-at.invariant.1 c.find-end.ensures.0 c.loop-at-test.true c.member_in-n.ensures c.in-IsNot.is
+pub returns-in_err-m : goal.returns-in_err-m
+returns-in_err-m c =
+    let t = YieldsList-turn (YieldsList-from_slice_split _ _ c.args.w.now (cc) (cc) (cc) (λ x r q k. search rules)) c.loop-piece.yielded _ c.loop-piece.yielded_by _ _ c.in-Some.piece c.in-Some.is c.next.ensures.steps in
+    let p = err_from_is_err_and c.from_residual.result c.from_residual.ensures.1 in
+    rw (p.1, p.2) (member_wrong _ _ _ c.loop-piece.invariant (split_turn 32 _ t) c.in_err-m.ensures.is)
 
-pub overflow_add-lowest : goal.overflow_add-lowest
-overflow_add-lowest c = omega (arith, member_placed _ _ _ c.loop-at.invariant.1 c.find-end.ensures.0 c.loop-at-test.true c.member_in-n.ensures c.in-Is.is)
-
-pub overflow_add-at : goal.overflow_add-at
-overflow_add-at c = omega arith
-
-pub loop-at-smaller : goal.loop-at-smaller
-loop-at-smaller c = omega arith
-
-pub loop-at-preserved : goal.loop-at-preserved
-loop-at-preserved c = (omega arith, member_next _ _ _ c.loop-at.invariant.1 c.find-end.ensures.0 c.loop-at-test.true c.member_in-n.ensures c.in-Is.is)
+pub loop-piece-preserved : goal.loop-piece-preserved
+loop-piece-preserved c =
+    let t = YieldsList-turn (YieldsList-from_slice_split _ _ c.args.w.now (cc) (cc) (cc) (λ x r q k. search rules)) c.loop-piece.yielded _ c.loop-piece.yielded_by _ _ c.in-Some.piece c.in-Some.is c.next.ensures.steps in
+    subst (MembersLeft c.args.w.now (c.in_ok-m.m + 1)) (sym (length_push c.loop-piece.yielded c.in-Some.piece))
+    (member_next _ _ _ c.loop-piece.invariant (split_turn 32 _ t) c.in_ok-m.ensures.is)
 
 pub returns : goal.returns
-returns c = members_all _ _ _ c.loop-at.invariant.1 c.loop-at-test.false
+returns c =
+    let t = YieldsList-end (YieldsList-from_slice_split _ _ c.args.w.now (cc) (cc) (cc) (λ x r q k. search rules)) c.loop-piece.yielded _ c.loop-piece.yielded_by _ _ c.in-None.is c.next.ensures.steps in
+    members_all _ _ _ c.loop-piece.invariant (split_end 32 _ t.1)

@@ -1,32 +1,32 @@
 -- `set_in` meets its contract. Assumes nothing.
-use mathlib.Core.Path.{sym, ◌∙◌}
-use native.Mathlib.Omega.{arith}
-use Rattle.fields.proofs.Gathering.{set_empty, gathering_start, gathering_wrong, gathering_place, gathering_next, gathering_all}
+use mathlib.Core.Path.{sym, subst, ◌∙◌}
+use Prim.Native.Nat.{◌+◌}
+use Rattle.std.proofs.Common.{rules}
+use Rattle.std.proofs.lemmas.Iterator.Splits.{YieldsList-from_slice_split}
+use Rattle.std.proofs.lemmas.Iterator.Consumers.{YieldsList-turn, YieldsList-end}
+use Rattle.std.proofs.lemmas.List.{length_push}
+use Rattle.fields.proofs.Finding.{split_turn, split_end}
+use Rattle.fields.proofs.Gathering.{Gathering, set_empty, gathering_start, gathering_wrong, gathering_next, gathering_all}
 use Rattle.fields.proofs.sets.set_in.Goals as goal
 
 pub returns-then-w-eq0 : goal.returns-then-w-eq0
 returns-then-w-eq0 c = set_empty _ _ c.if-w-eq0.true c.empty-s.ensures
 
-pub loop-at-init : goal.loop-at-init
-loop-at-init c = gathering_start _ _ c.if-w-eq0.false c.empty-s.ensures
+pub loop-piece-init : goal.loop-piece-init
+loop-piece-init c = gathering_start _ _ c.if-w-eq0.false c.empty-s.ensures
 
-pub returns-in-NoNumber : goal.returns-in-NoNumber
-returns-in-NoNumber c = gathering_wrong _ _ _ _ c.loop-at.invariant c.find-end.ensures.0 c.loop-at-test.true (sym c.in-NoNumber.is ∙ c.member-n.ensures)
+pub returns-in_err-m : goal.returns-in_err-m
+returns-in_err-m c =
+    let t = YieldsList-turn (YieldsList-from_slice_split _ _ c.args.w.now (cc) (cc) (cc) (λ x r q k. search rules)) c.loop-piece.yielded _ c.loop-piece.yielded_by _ _ c.in-Some.piece c.in-Some.is c.next.ensures.steps in
+    c.from_residual.ensures ∙ gathering_wrong _ _ _ _ c.loop-piece.invariant (split_turn 32 _ t) c.in_err-m.ensures.is
 
-pub with-s-requires : goal.with-s-requires
-with-s-requires c = gathering_place _ _ _ _ c.loop-at.invariant c.find-end.ensures.0 c.loop-at-test.true (sym c.in-Number.is ∙ c.member-n.ensures)
-
-pub overflow_add-lowest : goal.overflow_add-lowest
-overflow_add-lowest c = omega (arith, gathering_place _ _ _ _ c.loop-at.invariant c.find-end.ensures.0 c.loop-at-test.true (sym c.in-Number.is ∙ c.member-n.ensures))
-
-pub overflow_add-at : goal.overflow_add-at
-overflow_add-at c = omega arith
-
-pub loop-at-smaller : goal.loop-at-smaller
-loop-at-smaller c = omega arith
-
-pub loop-at-preserved : goal.loop-at-preserved
-loop-at-preserved c = gathering_next _ _ _ _ c.loop-at.invariant c.find-end.ensures.0 c.loop-at-test.true (sym c.in-Number.is ∙ c.member-n.ensures) c.with-s.ensures c.find-end.ensures.1
+pub loop-piece-preserved : goal.loop-piece-preserved
+loop-piece-preserved c =
+    let t = YieldsList-turn (YieldsList-from_slice_split _ _ c.args.w.now (cc) (cc) (cc) (λ x r q k. search rules)) c.loop-piece.yielded _ c.loop-piece.yielded_by _ _ c.in-Some.piece c.in-Some.is c.next.ensures.steps in
+    subst (Gathering c.args.w.now c.with-s.result (c.in_ok-m.m + 1)) (sym (length_push c.loop-piece.yielded c.in-Some.piece))
+    (gathering_next _ _ _ _ c.loop-piece.invariant (split_turn 32 _ t) c.in_ok-m.ensures.is c.with-s.ensures)
 
 pub returns : goal.returns
-returns c = gathering_all _ _ _ _ c.loop-at.invariant c.loop-at-test.false
+returns c =
+    let t = YieldsList-end (YieldsList-from_slice_split _ _ c.args.w.now (cc) (cc) (cc) (λ x r q k. search rules)) c.loop-piece.yielded _ c.loop-piece.yielded_by _ _ c.in-None.is c.next.ensures.steps in
+    gathering_all _ _ _ _ c.loop-piece.invariant (split_end 32 _ t.1)

@@ -1,11 +1,7 @@
 -- `set_in` meets its contract. Assumes nothing.
-use Prim.Native.Nat.{◌+◌, ◌-◌}
 use lib.ListN.{length}
 use Rattle.fields.proofs.Gathering.{Gathering}
 use Rattle.fields.proofs.sets.set_in.Given as goal
 
-abbrev pub invariant-loop-at : goal.invariant-loop-at
-invariant-loop-at l = Gathering l.w l.s l.lowest l.at
-
-abbrev pub decreases-loop-at : goal.decreases-loop-at
-decreases-loop-at l = length l.w + 1 - l.at
+abbrev pub invariant-loop-piece : goal.invariant-loop-piece
+invariant-loop-piece l = Gathering l.w l.s l.lowest (length l.yielded)

@@ -1,23 +1,21 @@
 -- `judge` meets its contract. Assumes nothing.
-use mathlib.Core.Path.{sym, ap, ◌∙◌}
-use native.Mathlib.Omega.{arith}
-use lib.Seq.{length-take-le}
+use mathlib.Core.Path.{refl, ap}
 use borrow.Author.Tests.{lt-ltb, le-ltb}
+use Rattle.std.proofs.lemmas.Result.{err_from_is_err_and}
 use Rattle.lemmas.proofs.Cases.{at_true, at_false}
-use Rattle.reader.specs.Answers.{graph_judged, checked_as}
+use Rattle.reader.specs.Answers.{no_graph, graph_judged, checked_as}
 use Rattle.reader.proofs.files.judge.Goals as goal
 
 pub returns-then-nodes-gt-PLACES : goal.returns-then-nodes-gt-PLACES
-unfolding graph_judged
-returns-then-nodes-gt-PLACES c = at_true _ (lt-ltb _ _ c.if-nodes-gt-PLACES.true) c.no_graph.ensures
+unfolding no_graph graph_judged
+returns-then-nodes-gt-PLACES c = at_true _ (lt-ltb _ _ c.if-nodes-gt-PLACES.true) refl
 
-pub slice_bounds-check-end : goal.slice_bounds-check-end
-slice_bounds-check-end c = sym (length-take-le _ _ (omega arith))
+pub returns-in_err-check : goal.returns-in_err-check
+unfolding no_graph graph_judged
+returns-in_err-check c =
+    let p = err_from_is_err_and c.from_residual.result c.from_residual.ensures.1 in
+    rw (p.1, p.2) (at_false _ (le-ltb _ _ c.if-nodes-gt-PLACES.false) (ap (checked_as _ _) c.in_err-check.ensures))
 
-pub returns-in-Refused : goal.returns-in-Refused
+pub returns : goal.returns
 unfolding graph_judged
-returns-in-Refused c = at_false _ (le-ltb _ _ c.if-nodes-gt-PLACES.false) (c.no_graph-in-Refused.ensures ∙ ap (checked_as _ _) (sym c.in-Refused.is ∙ c.check-checked.ensures))
-
-pub returns-in-Accepted : goal.returns-in-Accepted
-unfolding graph_judged
-returns-in-Accepted c = at_false _ (le-ltb _ _ c.if-nodes-gt-PLACES.false) (ap (checked_as _ _) (sym c.in-Accepted.is ∙ c.check-checked.ensures))
+returns c = at_false _ (le-ltb _ _ c.if-nodes-gt-PLACES.false) (ap (checked_as _ _) c.in_ok-check.ensures)

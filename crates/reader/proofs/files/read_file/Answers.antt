@@ -1,12 +1,12 @@
 -- `read_file` meets its contract. Assumes nothing.
 use mathlib.Core.Path.{◌∙◌}
 use Rattle.reader.proofs.Storing.{file_broken, file_rows}
-use Rattle.reader.specs.Answers.{file_said}
+use Rattle.reader.specs.Answers.{no_graph, file_said}
 use Rattle.reader.proofs.files.read_file.Goals as goal
 
-pub returns-in-Broken : goal.returns-in-Broken
-unfolding file_said
-returns-in-Broken c = c.no_graph.ensures ∙ file_broken _ _ c.read_lines-lines.ensures _ c.in-Broken.is
+pub returns-in-Err : goal.returns-in-Err
+unfolding no_graph file_said
+returns-in-Err c = file_broken _ _ c.read_lines.ensures _ c.in-Err.is
 
-pub returns-in-Rows : goal.returns-in-Rows
-returns-in-Rows c = c.judge.ensures ∙ file_rows _ _ c.read_lines-lines.ensures _ c.in-Rows.is
+pub returns-in-Ok : goal.returns-in-Ok
+returns-in-Ok c = c.judge.ensures ∙ file_rows _ _ c.read_lines.ensures _ c.in-Ok.is

@@ -2,11 +2,11 @@
 use Rattle.reader.proofs.Rows.{row_fields, row_node, row_is}
 use Rattle.reader.proofs.lines.row.Goals as goal
 
-pub returns-then-d-behind : goal.returns-then-d-behind
-returns-then-d-behind c = row_fields _ _ c.number_at-node.ensures c.number_at-kind.ensures c.number_at-threshold.ensures c.set_at-a.ensures c.set_at-b.ensures c.set_at-c.ensures c.set_at-d.ensures c.if-d-behind.true
+pub returns-then-fourth-behind : goal.returns-then-fourth-behind
+returns-then-fourth-behind c = row_fields _ _ c.number_at-node.ensures c.number_at-kind.ensures c.number_at-threshold.ensures c.set_at-first.ensures c.set_at-second.ensures c.set_at-third.ensures c.set_at-fourth.ensures c.if-fourth-behind.true
 
 pub returns-then-node-k : goal.returns-then-node-k
-returns-then-node-k c = row_node _ _ c.number_at-node.ensures c.number_at-kind.ensures c.number_at-threshold.ensures c.set_at-a.ensures c.set_at-b.ensures c.set_at-c.ensures c.set_at-d.ensures c.if-node-k.true
+returns-then-node-k c = row_node _ _ c.number_at-node.ensures c.number_at-kind.ensures c.number_at-threshold.ensures c.set_at-first.ensures c.set_at-second.ensures c.set_at-third.ensures c.set_at-fourth.ensures c.if-node-k.true
 
 pub returns : goal.returns
-returns c = row_is _ _ c.number_at-node.ensures c.number_at-kind.ensures c.number_at-threshold.ensures c.set_at-a.ensures c.set_at-b.ensures c.set_at-c.ensures c.set_at-d.ensures c.if-d-behind.false c.if-node-k.false
+returns c = row_is _ _ c.number_at-node.ensures c.number_at-kind.ensures c.number_at-threshold.ensures c.set_at-first.ensures c.set_at-second.ensures c.set_at-third.ensures c.set_at-fourth.ensures c.if-fourth-behind.false c.if-node-k.false

@@ -1,25 +1,19 @@
 -- `number_at` meets its contract. Assumes nothing.
-use mathlib.Core.Path.{sym, ◌∙◌}
-use native.Mathlib.Omega.{arith}
-use Rattle.fields.proofs.Told.{told_none, told_number}
-use Rattle.reader.proofs.Taking.{field_found, taken_past, taken_here, number_wrong, number_right}
+use mathlib.Core.Path.{◌∙◌}
 use Rattle.format.specs.Fields.{number_of}
+use Rattle.fields.proofs.Told.{told_none, told_number}
+use Rattle.reader.proofs.Taking.{taken_past, taken_here, number_wrong, number_right}
 use Rattle.reader.proofs.places.number_at.Goals as goal
 
-pub returns-then-line-from : goal.returns-then-line-from
-returns-then-line-from c = number_wrong _ _ (taken_past number_of _ _ c.if-line-from.true)
-
-pub slice_bounds-number_in-count : goal.slice_bounds-number_in-count
-slice_bounds-number_in-count c = omega (arith, (field_found _ _ c.if-line-from.false c.field_at-f.ensures).part.order)
-
-pub slice_bounds-number_in-start : goal.slice_bounds-number_in-start
-slice_bounds-number_in-start c = (field_found _ _ c.if-line-from.false c.field_at-f.ensures).part.order
-
-pub slice_bounds-number_in-end : goal.slice_bounds-number_in-end
-slice_bounds-number_in-end c = (field_found _ _ c.if-line-from.false c.field_at-f.ensures).part.inside
-
 pub returns-in_default : goal.returns-in_default
-returns-in_default c = number_wrong _ _ (taken_here number_of _ _ (field_found _ _ c.if-line-from.false c.field_at-f.ensures) (told_none _ (sym c.in_default.is ∙ c.number_in-n.ensures)))
+returns-in_default c = c.wrong.ensures ∙ number_wrong _ _ (taken_past number_of _ _ c.in_default.ensures)
+
+pub returns-in_default-number_in : goal.returns-in_default-number_in
+returns-in_default-number_in c =
+    let f = c.in-Some.ensures in
+    c.wrong-in_default-number_in.ensures ∙ number_wrong _ _ (taken_here number_of _ _ f.0 f.1 (told_none _ c.in_default-number_in.ensures))
 
 pub returns : goal.returns
-returns c = number_right _ _ (taken_here number_of _ _ (field_found _ _ c.if-line-from.false c.field_at-f.ensures) (told_number _ (sym c.in-Number.is ∙ c.number_in-n.ensures))) c.field_at-f.ensures
+returns c =
+    let f = c.in-Some.ensures in
+    number_right _ _ (taken_here number_of _ _ f.0 f.1 (told_number _ c.in-Some-number_in.ensures)) f.2

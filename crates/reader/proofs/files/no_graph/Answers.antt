@@ -1,8 +1,0 @@
--- `no_graph` meets its contract. Assumes nothing.
-use mathlib.Core.Path.{refl}
-use Rattle.reader.specs.Answers.{no_graph}
-use Rattle.reader.proofs.files.no_graph.Goals as goal
-
-pub returns : goal.returns
-unfolding no_graph
-returns c = refl
