@@ -11,9 +11,8 @@ use lib.Seq.{sets}
 use borrow.Author.Tests.{le-leb, lt-leb}
 use Rattle.lemmas.proofs.Cases.{at_true, at_false, both_branches}
 use Rattle.lemmas.proofs.Tests.{and_intro, and_first, and_later}
-use Rattle.script.specs.declared.numbers.Count.TheVariants.{Bad, Read}
-use Rattle.script.specs.declared.script.Parsed.{Parsed}
-use Rattle.script.specs.declared.script.Parsed.TheVariants.{NoScript as Parsed-as-NoScript}
+use Rattle.std.specs.Prelude.{Option, Some, None}
+use Rattle.script.specs.declared.script.Shape.{Shape}
 use Rattle.script.specs.Numbers.{numbers_of, count_of}
 use Rattle.script.specs.Script.{most_numbers, longest, Meant, script_of, meant_by, numbers_read, shape_of, steps_in, CodeSays, ParseSays}
 use Rattle.script.specs.Script.Meant.{NoScript}
@@ -48,14 +47,14 @@ module _ (bytes : List ℕ) where
 
   -- ---- what the parser says
   module _ (numbers steps : List ℕ) where
-    none : {numbers' : List ℕ} → meant_by bytes ≡ NoScript → numbers' ≡ sets numbers 0 (numbers_read bytes) → ParseSays bytes numbers steps numbers' steps Parsed-as-NoScript
+    none : {numbers' : List ℕ} → meant_by bytes ≡ NoScript → numbers' ≡ sets numbers 0 (numbers_read bytes) → ParseSays bytes numbers steps numbers' steps None
     none e r = record {
       answer = ap shape_of (sym e);
       read = r;
       coded = ap (λ (m : Meant). sets steps 0 (steps_in m)) (sym e);
     }
 
-    pub parse_long : longest < length bytes → ParseSays bytes numbers steps numbers steps Parsed-as-NoScript
+    pub parse_long : longest < length bytes → ParseSays bytes numbers steps numbers steps None
     parse_long h = none (meant_none (and_first (numbers_of bytes).good (lt-leb (length bytes) longest h))) (ap (sets numbers 0) (sym (none_read h)))
 
     module _ (h : length bytes ≤ longest) {numbers' : List ℕ} (r : numbers' ≡ sets numbers 0 (numbers_of bytes).numbers) where
@@ -65,7 +64,7 @@ module _ (bytes : List ℕ) where
       was_read : numbers' ≡ sets numbers 0 (numbers_read bytes)
       was_read = r ∙ ap (sets numbers 0) (sym (some_read short))
 
-      pub parse_bad : most_numbers ≤ length numbers → Bad ≡ count_of (length numbers) (numbers_of bytes) → ParseSays bytes numbers steps numbers' steps Parsed-as-NoScript
+      pub parse_bad : most_numbers ≤ length numbers → None ≡ count_of (length numbers) (numbers_of bytes) → ParseSays bytes numbers steps numbers' steps None
       parse_bad roomy e =
           none
           (⊎_elim
@@ -74,13 +73,13 @@ module _ (bytes : List ℕ) where
           (bad_count (length numbers) (numbers_of bytes) e))
           was_read
 
-      module _ {count : ℕ} (e : Read count ≡ count_of (length numbers) (numbers_of bytes)) where
+      module _ {count : ℕ} (e : Some count ≡ count_of (length numbers) (numbers_of bytes)) where
         meant : script_of (take count numbers') ≡ meant_by bytes
         meant =
             ap script_of (read_front bytes numbers numbers' r e)
             ∙ sym (meant_script (and_intro (leb (length bytes) longest) (numbers_of bytes).good short (read_good bytes numbers numbers' r e)))
 
-        pub parse_all : {steps' : List ℕ} {a : Parsed} → CodeSays (take count numbers') steps steps' a → ParseSays bytes numbers steps numbers' steps' a
+        pub parse_all : {steps' : List ℕ} {a : Option Shape} → CodeSays (take count numbers') steps steps' a → ParseSays bytes numbers steps numbers' steps' a
         parse_all p = record {
           answer = p.answer ∙ ap shape_of meant;
           read = was_read;

@@ -11,7 +11,7 @@ use lib.Seq.{sets, take_at, drop_at, take-append-le, drop-append-le}
 use Rattle.lemmas.proofs.Stores.{in_front_lem}
 use Rattle.lemmas.proofs.Tests.{and_left, true_or_false}
 use Rattle.script.specs.declared.script.Shape.{Shape}
-use Rattle.script.specs.declared.script.Parsed.TheVariants.{NoScript as Parsed-as-NoScript, Script as Parsed-as-Script}
+use Rattle.std.specs.Prelude.{Some, None}
 use Rattle.script.specs.Numbers.{numbers_of}
 use Rattle.script.specs.Steps.{steps_of}
 use Rattle.script.specs.Script.{most, most_numbers, longest, Script, Meant, script_of, meant_by, numbers_read, shape_of, steps_in, ParseSays}
@@ -55,10 +55,10 @@ passed_stands l numbers steps p m n =
     }
 
 module _ (bytes numbers steps numbers' steps' : List ℕ) where
-  pub parse_none : ParseSays bytes numbers steps numbers' steps' Parsed-as-NoScript → meant_by bytes ≡ NoScript
+  pub parse_none : ParseSays bytes numbers steps numbers' steps' None → meant_by bytes ≡ NoScript
   parse_none p = no_shape (meant_by bytes) p.answer
 
-  pub parse_script : most_numbers ≤ length numbers → most ≤ length steps → (h : Shape) → ParseSays bytes numbers steps numbers' steps' (Parsed-as-Script h)
+  pub parse_script : most_numbers ≤ length numbers → most ≤ length steps → (h : Shape) → ParseSays bytes numbers steps numbers' steps' (Some h)
       → (s : Script) × (meant_by bytes ≡ IsScript s) × Stands numbers' steps steps' s h
   parse_script m n h p =
       ⊎_elim

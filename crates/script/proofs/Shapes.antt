@@ -8,11 +8,11 @@ use native.Mathlib.Omega.{arith}
 use lib.Dec.{leb, eqb}
 use lib.ListN.{length, get_or, take, drop, length-drop}
 use lib.Seq.{drop-cons, take_all, length-take-le}
-use borrow.Author.Tests.{leb-true, leb-false, le-leb, lt-leb, eq-eqb, ne_eqb, eqb-true}
+use borrow.Author.Tests.{leb-true, leb-false, le-leb, eq-eqb, eqb-true}
 use Rattle.lemmas.proofs.Cases.{at_true, at_false}
-use Rattle.lemmas.proofs.Tests.{and_intro, and_left, and_right, true_or_false, and_first, and_later}
+use Rattle.lemmas.proofs.Tests.{and_intro, and_left, and_right, true_or_false}
 use Rattle.script.specs.declared.script.Shape.{Shape}
-use Rattle.script.specs.declared.script.Parsed.TheVariants.{Script as Parsed-as-Script}
+use Rattle.std.specs.Prelude.{Some, None}
 use Rattle.script.specs.Steps.{good_steps, steps_of}
 use Rattle.script.specs.Script.{most, most_numbers, Script, with_rows, script_of, shape_of}
 use Rattle.script.specs.Script.Meant.{NoScript, IsScript}
@@ -47,7 +47,7 @@ shape l = record { nodes = get_or l 0 0; rows = get_or l 1 0; room = room l; ste
 abbrev tests : List ℕ → Bool
 tests l = leb (get_or l 1 0) most && (leb (room l) most && (leb (count l) most && (eqb (length (rest l)) (3 * count l) && good_steps (rest l))))
 
--- ---- too few numbers, or too many rows
+-- ---- too few numbers
 short : (nodes c : ℕ) (rows l : List ℕ) → length l < 2 → with_rows nodes c rows l ≡ NoScript
 unfolding with_rows
 short nodes c rows [] h = refl
@@ -59,18 +59,6 @@ unfolding script_of
 lacks [] h = refl
 lacks (n ∷ []) h = refl
 lacks (n ∷ c ∷ l) h = short n c (take c l) (drop c l) (omega (arith, length-drop c l))
-
-crowded : (nodes c : ℕ) (rows l : List ℕ) → most < c → with_rows nodes c rows l ≡ NoScript
-unfolding with_rows
-crowded nodes c rows [] h = refl
-crowded nodes c rows (r ∷ []) h = refl
-crowded nodes c rows (r ∷ s ∷ l) h = rw (lt-leb c most h)
-
-pub many_rows : (l : List ℕ) → most < get_or l 1 0 → script_of l ≡ NoScript
-unfolding script_of
-many_rows [] h = refl
-many_rows (n ∷ []) h = refl
-many_rows (n ∷ c ∷ l) h = crowded n c (take c l) (drop c l) h
 
 -- ---- enough numbers: the tests decide
 by_places : (l : List ℕ) → from l ≤ length l → script_of l ≡ cond (tests l) (IsScript (script l)) NoScript
@@ -84,29 +72,8 @@ by_places (n ∷ c ∷ l) h =
     rw (two, three, four)
     (ap (with_rows n c (take c l)) (drop-cons l c 0 (omega arith) ∙ ap (λ (m : List ℕ). get_or l c 0 ∷ m) (drop-cons l (suc c) 0 (omega arith))))
 
-module _ (l : List ℕ) (enough : from l ≤ length l) where
-  refused : tests l ≡ false → script_of l ≡ NoScript
-  refused e = by_places l enough ∙ sym (at_false (IsScript (script l)) e refl)
-
-  pub wide_room : most < room l → script_of l ≡ NoScript
-  wide_room h = refused (and_later (leb (get_or l 1 0) most) (and_first _ (lt-leb (room l) most h)))
-
-  pub many_steps : most < count l → script_of l ≡ NoScript
-  many_steps h = refused (and_later (leb (get_or l 1 0) most) (and_later (leb (room l) most) (and_first _ (lt-leb (count l) most h))))
-
-  pub wrong_size : (length l - from l ≡ 3 * count l → ⊥) → script_of l ≡ NoScript
-  wrong_size n =
-      refused
-      (and_later (leb (get_or l 1 0) most)
-      (and_later (leb (room l) most)
-      (and_later (leb (count l) most) (and_first _ (ne_eqb (length (rest l)) (3 * count l) (λ e. n (sym (length-drop (from l) l) ∙ e)))))))
-
-  pub bad_steps : good_steps (tail l (from l)) ≡ false → script_of l ≡ NoScript
-  bad_steps e =
-      refused
-      (and_later (leb (get_or l 1 0) most)
-      (and_later (leb (room l) most)
-      (and_later (leb (count l) most) (and_later (eqb (length (rest l)) (3 * count l)) (ap good_steps (sym (tail_drop l (from l))) ∙ e)))))
+refused : (l : List ℕ) → from l ≤ length l → tests l ≡ false → script_of l ≡ NoScript
+refused l enough e = by_places l enough ∙ sym (at_false (IsScript (script l)) e refl)
 
 -- ---- either it is no script, or all tests are passed
 pub record Passed (l : List ℕ) : Type 0 where
@@ -129,9 +96,9 @@ module _ (l : List ℕ) (p : Passed l) where
       (and_intro (eqb (length (rest l)) (3 * count l)) (good_steps (rest l)) (eq-eqb (length (rest l)) (3 * count l) (length-drop (from l) l ∙ p.size)) (ap good_steps (sym (tail_drop l (from l))) ∙ p.good)))))
       refl)
 
-  pub shape_is : Parsed-as-Script (shape l) ≡ shape_of (script_of l)
+  pub shape_is : Some (shape l) ≡ shape_of (script_of l)
   shape_is =
-      ap₂ (λ (c s : ℕ). Parsed-as-Script (record { nodes = get_or l 0 0; rows = c; room = room l; steps = s }))
+      ap₂ (λ (c s : ℕ). Some (record { nodes = get_or l 0 0; rows = c; room = room l; steps = s }))
       (sym (length-take-le (get_or l 1 0) (drop 2 l) (omega (arith, length-drop 2 l, p.enough))))
       (sym (steps_length (count l) (rest l) (length-drop (from l) l ∙ p.size)))
       ∙ ap shape_of (sym is_script)
@@ -160,6 +127,10 @@ none_or_passed l =
           size = sym (length-drop (from l) l) ∙ eqb-true (length (rest l)) (3 * count l) (and_left (eqb (length (rest l)) (3 * count l)) (good_steps (rest l)) t3);
           good = ap good_steps (tail_drop l (from l)) ∙ and_right (eqb (length (rest l)) (3 * count l)) (good_steps (rest l)) t3;
         }
+
+-- so where a test fails there is no shape
+pub no_shape_told : (l : List ℕ) → (Passed l → ⊥) → None ≡ shape_of (script_of l)
+no_shape_told l n = ⊎_elim (λ (e : script_of l ≡ NoScript). ap shape_of (sym e)) (λ (p : Passed l). absurd (n p)) (none_or_passed l)
 
 -- a script has 32,772 numbers at most
 pub passed_numbers : (l : List ℕ) → Passed l → length l ≤ most_numbers

@@ -8,24 +8,24 @@ use native.Mathlib.Omega.{arith}
 use lib.ListN.{length, get_or, length-drop}
 use lib.Seq.{sets}
 use Rattle.script.specs.declared.script.Shape.{Shape}
-use Rattle.script.specs.declared.script.Parsed.TheVariants.{NoScript as Parsed-as-NoScript, Script as Parsed-as-Script}
+use Rattle.std.specs.Prelude.{Some, None}
 use Rattle.script.specs.Steps.{good_steps, steps_of}
 use Rattle.script.specs.Script.{most, Meant, script_of, shape_of, steps_in, CodeSays}
 use Rattle.script.specs.Script.Meant.{NoScript, IsScript}
 use Rattle.script.proofs.Shapes.{tail, tail_drop, from, shape, Passed, is_script, shape_is, none_or_passed}
 
-pub not_none : {s : Shape} → Parsed-as-Script s ≡ Parsed-as-NoScript → ⊥
-not_none e = let z : ◌≡◌ {A = ℕ} 0 1 = cc in omega arith
+pub not_none : {s : Shape} → Some s ≡ None → ⊥
+not_none e = cc
 
-pub no_shape : (m : Meant) → Parsed-as-NoScript ≡ shape_of m → m ≡ NoScript
+pub no_shape : (m : Meant) → None ≡ shape_of m → m ≡ NoScript
 no_shape NoScript e = refl
 no_shape (IsScript s) e = absurd (not_none (sym e))
 
 -- nothing is coded
-pub told_none : (l steps : List ℕ) → Parsed-as-NoScript ≡ shape_of (script_of l) → CodeSays l steps steps Parsed-as-NoScript
+pub told_none : (l steps : List ℕ) → None ≡ shape_of (script_of l) → CodeSays l steps steps None
 told_none l steps e = record { answer = e; coded = ap (λ (m : Meant). sets steps 0 (steps_in m)) (sym (no_shape (script_of l) e)) }
 
-module _ (l : List ℕ) (s : Shape) (e : Parsed-as-Script s ≡ shape_of (script_of l)) where
+module _ (l : List ℕ) (s : Shape) (e : Some s ≡ shape_of (script_of l)) where
   pub told_passed : Passed l × (s ≡ shape l)
   told_passed =
       ⊎_elim
@@ -33,7 +33,7 @@ module _ (l : List ℕ) (s : Shape) (e : Parsed-as-Script s ≡ shape_of (script
       (λ (p : Passed l). (p, same (e ∙ sym (shape_is l p))))
       (none_or_passed l)
     where
-      same : Parsed-as-Script s ≡ Parsed-as-Script (shape l) → s ≡ shape l
+      same : Some s ≡ Some (shape l) → s ≡ shape l
       same f = cc
 
   same_rows : s.rows ≡ get_or l 1 0
@@ -56,5 +56,5 @@ module _ (l : List ℕ) (s : Shape) (e : Parsed-as-Script s ≡ shape_of (script
   told_steps : steps_of (tail l (s.rows + 4)) ≡ steps_in (script_of l)
   told_steps = ap steps_of (tail_is ∙ tail_drop l (from l)) ∙ ap steps_in (sym (is_script l told_passed.0))
 
-  pub told_coded : (steps : List ℕ) {steps' : List ℕ} → steps' ≡ sets steps 0 (steps_of (tail l (s.rows + 4))) → CodeSays l steps steps' (Parsed-as-Script s)
+  pub told_coded : (steps : List ℕ) {steps' : List ℕ} → steps' ≡ sets steps 0 (steps_of (tail l (s.rows + 4))) → CodeSays l steps steps' (Some s)
   told_coded steps q = record { answer = e; coded = q ∙ ap (sets steps 0) told_steps }

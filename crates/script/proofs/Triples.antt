@@ -2,7 +2,7 @@
 use mathlib.Core.Path.{◌≡◌, refl, sym, ap, ap₂, ◌∙◌}
 use mathlib.Core.Bool.{Bool, true, false, ◌&&◌}
 use mathlib.Core.List.{List, [], ◌∷◌}
-use Prim.Native.Nat.{ℕ, zero, suc, ◌+◌, ◌*◌, ◌^◌, ◌≤◌, ◌<◌, zero-le}
+use Prim.Native.Nat.{ℕ, zero, suc, ◌+◌, ◌*◌, ◌/◌, ◌^◌, ◌≤◌, ◌<◌}
 use native.Mathlib.Numerals.{add-one, add-two, add-three}
 use native.Mathlib.Omega.{arith}
 use lib.Dec.{ltb}
@@ -57,58 +57,61 @@ steps_length s (a ∷ b ∷ []) e = absurd (omega arith)
 steps_length zero (a ∷ b ∷ c ∷ l) e = absurd (omega arith)
 steps_length (suc s) (a ∷ b ∷ c ∷ l) e = ap suc (steps_length s l (omega arith))
 
--- the step at a place
+-- step k
 abbrev pub good_at : List ℕ → ℕ → Bool
-good_at l at = good_step (get_or l at 0) (get_or l (at + 1) 0) (get_or l (at + 2) 0)
+good_at l k = good_step (get_or l (3 * k) 0) (get_or l (3 * k + 1) 0) (get_or l (3 * k + 2) 0)
 
 abbrev pub step_at : List ℕ → ℕ → ℕ
-step_at l at = step_number (get_or l at 0) (get_or l (at + 1) 0) (get_or l (at + 2) 0)
+step_at l k = step_number (get_or l (3 * k) 0) (get_or l (3 * k + 1) 0) (get_or l (3 * k + 2) 0)
+
+-- the steps from k on, of as many as there are threes
+pub next_three : (l : List ℕ) (k : ℕ) → k < length l / 3
+    → drop (3 * k) l ≡ get_or l (3 * k) 0 ∷ get_or l (3 * k + 1) 0 ∷ get_or l (3 * k + 2) 0 ∷ drop (3 * (k + 1)) l
+next_three l k h =
+    let next : 3 * k + 3 ≡ 3 * (k + 1) = omega arith in
+    drop_three l (3 * k) (omega arith)
+    ∙ ap (λ (m : ℕ). get_or l (3 * k) 0 ∷ get_or l (3 * k + 1) 0 ∷ get_or l (3 * k + 2) 0 ∷ drop m l) next
 
 -- ---- a walk that looks at one step after the other
-module _ (l : List ℕ) (at : ℕ) where
-  here : at + 2 < length l → good_steps (drop at l) ≡ (good_at l at && good_steps (drop (at + 3) l))
+module _ (l : List ℕ) (k : ℕ) where
+  here : k < length l / 3 → good_steps (drop (3 * k) l) ≡ (good_at l k && good_steps (drop (3 * (k + 1)) l))
   unfolding good_steps
-  here h = ap good_steps (drop_three l at h)
+  here h = ap good_steps (next_three l k h)
 
-  pub good_next : at + 2 < length l → good_at l at ≡ true
-      → good_steps (drop at l) ≡ good_steps l → good_steps (drop (at + 3) l) ≡ good_steps l
-  good_next h e i = and_rest (good_steps (drop (at + 3) l)) e (sym (here h)) ∙ i
+  pub good_next : k < length l / 3 → good_at l k ≡ true
+      → good_steps (drop (3 * k) l) ≡ good_steps l → good_steps (drop (3 * (k + 1)) l) ≡ good_steps l
+  good_next h e i = and_rest (good_steps (drop (3 * (k + 1)) l)) e (sym (here h)) ∙ i
 
-  pub good_not : at + 2 < length l → good_at l at ≡ false
-      → good_steps (drop at l) ≡ good_steps l → false ≡ good_steps l
-  good_not h e i = and_not (good_steps (drop (at + 3) l)) e ∙ sym (here h) ∙ i
+  pub good_not : k < length l / 3 → good_at l k ≡ false
+      → good_steps (drop (3 * k) l) ≡ good_steps l → false ≡ good_steps l
+  good_not h e i = and_not (good_steps (drop (3 * (k + 1)) l)) e ∙ sym (here h) ∙ i
 
-  pub good_all : length l ≤ at + 2 → good_steps (drop at l) ≡ good_steps l → true ≡ good_steps l
-  good_all h i = sym (few_good (drop at l) (omega (arith, length-drop at l))) ∙ i
+  pub good_all : length l / 3 ≤ k → good_steps (drop (3 * k) l) ≡ good_steps l → true ≡ good_steps l
+  good_all h i = sym (few_good (drop (3 * k) l) (omega (arith, length-drop (3 * k) l))) ∙ i
 
 -- ---- a walk that writes one step after the other
-pub record Coding (l found left : List ℕ) (at k : ℕ) : Type 0 where
-  pub good : good_steps (drop at l) ≡ true
-  pub coded : sets left k (steps_of (drop at l)) ≡ sets found 0 (steps_of l)
-  pub place : at ≡ 3 * k
-  pub inside : at ≤ length l
+pub record Coding (l found left : List ℕ) (k : ℕ) : Type 0 where
+  pub good : good_steps (drop (3 * k) l) ≡ true
+  pub coded : sets left k (steps_of (drop (3 * k) l)) ≡ sets found 0 (steps_of l)
   pub long : length left ≡ length found
 
-pub coding_start : (l found : List ℕ) → good_steps l ≡ true → Coding l found found 0 0
-coding_start l found e = record { good = e; coded = refl; place = refl; inside = zero-le; long = refl }
+pub coding_start : (l found : List ℕ) → good_steps l ≡ true → Coding l found found 0
+coding_start l found e = record { good = e; coded = refl; long = refl }
 
-module _ (l found left : List ℕ) (at k : ℕ) (c : Coding l found left at k) where
-  pub coding_good : at + 2 < length l → good_at l at ≡ true
-  coding_good h = and_left (good_at l at) (good_steps (drop (at + 3) l)) (sym (here l at h) ∙ c.good)
+module _ (l found left : List ℕ) (k : ℕ) (c : Coding l found left k) where
+  pub coding_good : k < length l / 3 → good_at l k ≡ true
+  coding_good h = and_left (good_at l k) (good_steps (drop (3 * (k + 1)) l)) (sym (here l k h) ∙ c.good)
 
-  pub coding_next : at + 2 < length l → {x : ℕ} → x ≡ step_at l at
-      → Coding l found (set left k x) (at + 3) (k + 1)
+  pub coding_next : k < length l / 3 → {x : ℕ} → x ≡ step_at l k → Coding l found (set left k x) (k + 1)
   unfolding steps_of
   coding_next h {x} e = record {
-    good = and_right (good_at l at) (good_steps (drop (at + 3) l)) (sym (here l at h) ∙ c.good);
+    good = and_right (good_at l k) (good_steps (drop (3 * (k + 1)) l)) (sym (here l k h) ∙ c.good);
     coded =
-        ap₂ (λ (y j : ℕ). sets (set left k y) j (steps_of (drop (at + 3) l))) e (add-one k)
-        ∙ ap (λ (m : List ℕ). sets left k (steps_of m)) (sym (drop_three l at h))
+        ap₂ (λ (y j : ℕ). sets (set left k y) j (steps_of (drop (3 * (k + 1)) l))) e (add-one k)
+        ∙ ap (λ (m : List ℕ). sets left k (steps_of m)) (sym (next_three l k h))
         ∙ c.coded;
-    place = omega (arith, c.place);
-    inside = omega arith;
     long = length-set left k x ∙ c.long;
   }
 
-  pub coding_all : length l ≤ at + 2 → left ≡ sets found 0 (steps_of l)
-  coding_all h = ap (sets left k) (sym (few_none (drop at l) (omega (arith, length-drop at l)))) ∙ c.coded
+  pub coding_all : length l / 3 ≤ k → left ≡ sets found 0 (steps_of l)
+  coding_all h = ap (sets left k) (sym (few_none (drop (3 * k) l) (omega (arith, length-drop (3 * k) l)))) ∙ c.coded

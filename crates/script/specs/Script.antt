@@ -1,8 +1,7 @@
 -- What a script is. Assumes nothing.
-use Rattle.std.specs.Prelude.{◌≡◌, cond, ◌&&◌, List, [], ◌∷◌, ℕ, ◌+◌, ◌*◌, leb, eqb, length, take, drop}
+use Rattle.std.specs.Prelude.{◌≡◌, cond, ◌&&◌, List, [], ◌∷◌, ℕ, ◌+◌, ◌*◌, leb, eqb, length, take, drop, Option, Some, None}
 use Rattle.std.proofs.lemmas.List.Edits.{sets}
-use Rattle.script.specs.declared.script.Parsed.{Parsed}
-use Rattle.script.specs.declared.script.Parsed.TheVariants.{NoScript as Parsed-as-NoScript, Script as Parsed-as-Script}
+use Rattle.script.specs.declared.script.Shape.{Shape}
 use Rattle.script.specs.Numbers.{numbers_of}
 use Rattle.script.specs.Steps.{good_steps, steps_of}
 
@@ -48,10 +47,10 @@ unfoldable pub meant_by : List ℕ → Meant
 meant_by bytes = cond (leb (length bytes) longest && (numbers_of bytes).good) (script_of (numbers_of bytes).numbers) NoScript
 
 -- ---- what the parser says of it: how many rows and steps there are; they stand in the lent lists
-abbrev pub shape_of : Meant → Parsed
-shape_of NoScript = Parsed-as-NoScript
+abbrev pub shape_of : Meant → Option Shape
+shape_of NoScript = None
 shape_of (IsScript s) =
-    Parsed-as-Script (record { nodes = s.nodes; rows = length s.rows; room = s.room; steps = length s.steps })
+    Some (record { nodes = s.nodes; rows = length s.rows; room = s.room; steps = length s.steps })
 
 abbrev pub steps_in : Meant → List ℕ
 steps_in NoScript = []
@@ -62,12 +61,12 @@ unfoldable pub numbers_read : List ℕ → List ℕ
 numbers_read bytes = cond (leb (length bytes) longest) (numbers_of bytes).numbers []
 
 -- of a script's numbers, the list of steps as found and as left, and the answer
-pub record CodeSays (numbers found left : List ℕ) (r : Parsed) : Type 0 where
+pub record CodeSays (numbers found left : List ℕ) (r : Option Shape) : Type 0 where
   pub answer : r ≡ shape_of (script_of numbers)
   pub coded : left ≡ sets found 0 (steps_in (script_of numbers))
 
 -- of a script's bytes, the two lists as found and as left, and the answer
-pub record ParseSays (bytes numbers steps numbers' steps' : List ℕ) (r : Parsed) : Type 0 where
+pub record ParseSays (bytes numbers steps numbers' steps' : List ℕ) (r : Option Shape) : Type 0 where
   pub answer : r ≡ shape_of (meant_by bytes)
   pub read : numbers' ≡ sets numbers 0 (numbers_read bytes)
   pub coded : steps' ≡ sets steps 0 (steps_in (meant_by bytes))

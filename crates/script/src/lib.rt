@@ -6,7 +6,7 @@ mod script;
 mod steps;
 mod stops;
 
-pub use numbers::{Count, read};
-pub use script::{BYTES, MOST, NUMBERS, Parsed, STEPS, Shape, parse};
+pub use numbers::read;
+pub use script::{BYTES, MOST, NUMBERS, STEPS, Shape, parse};
 pub use steps::{KINDS, PARTS};
 pub use stops::{Stop, stop_of};

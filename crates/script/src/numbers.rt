@@ -1,85 +1,58 @@
 // Decimal numbers with blanks between them, read from bytes.
 ghost use Rattle.std.specs.Prelude.{◌≡◌, ◌<◌, ◌^◌};
-ghost use Rattle.script.specs.Numbers.{blank as the_blank, so_far, EndSays, ReadSays};
+ghost use Rattle.script.specs.Numbers.{blank as the_blank, place_after, EndSays, ReadSays};
 
-use text::{Next, grown};
+use text::grown;
 
-// Where a reader is: between two numbers, or within one, with its value so far.
-#[derive(Clone, Copy)]
-pub enum Place {
-    Between,
-    Within(u64),
-}
-
-#[derive(Clone, Copy)]
-pub enum Count {
-    Bad,
-    Read(usize),
-}
-
-pub fn blank(b: u8) -> bool
+#[tactic(auto, unfolding(crate::specs::Numbers::blank))]
+fn blank(b: u8) -> bool
     ensures { result ≡ the_blank b }
 {
-    if b == b' ' {
-        return true;
-    }
-    if b == b'\t' {
-        return true;
-    }
-    if b == b'\n' {
-        return true;
-    }
-    b == b'\r'
+    matches!(b, b' ' | b'\t' | b'\n' | b'\r')
 }
 
-pub fn so_far(p: Place) -> u64
-    ensures { result ≡ so_far p }
+// Where a reader is one byte further: between two numbers, which is no value, or within one, with its value so far. A byte is
+// strange if it is neither a digit nor a blank, or if it makes the number too large: then the reader is nowhere.
+#[tactic(auto, unfolding(crate::specs::Numbers::place_after))]
+pub fn place_after(p: Option<u64>, b: u8) -> Option<Option<u64>>
+    ensures { result ≡ place_after p b }
 {
-    match p {
-        Place::Between => 0,
-        Place::Within(v) => v,
+    if blank(b) {
+        return Some(None);
     }
+    Some(Some(grown(p.unwrap_or(0), b)?))
 }
 
 // Ends the number under way, if there is one: it goes to the next place, if there is one. Says how many numbers there are.
-fn end(p: Place, numbers: &mut [u64], count: usize) -> usize
+fn end(p: Option<u64>, numbers: &mut [u64], count: usize) -> usize
     requires { count < 2 ^ 63 }
     ensures { EndSays p numbers.old numbers.new count result }
 {
-    let Place::Within(v) = p else {
+    let Some(v) = p else {
         return count;
     };
-    if numbers.len() <= count {
-        return count + 1;
+    if count < numbers.len() {
+        numbers[count] = v;
     }
-    numbers[count] = v;
     count + 1
 }
 
-// Reads all numbers of a text into a lent list. It is bad if something else is in the text, or there are more numbers than places.
-pub fn read(script: &[u8], numbers: &mut [u64]) -> Count
+// Reads all numbers of a text into a lent list. There is no count if something else is in the text, or more numbers than places.
+pub fn read(script: &[u8], numbers: &mut [u64]) -> Option<usize>
     ensures { ReadSays script.now numbers.old numbers.new result }
 {
     let mut count: usize = 0;
-    let mut p = Place::Between;
-    let mut i: usize = 0;
-    while i < script.len() {
-        let b = script[i];
-        if blank(b) {
+    let mut p = None;
+    for &b in script {
+        let next = place_after(p, b)?;
+        if next.is_none() {
             count = end(p, numbers, count);
-            p = Place::Between;
-        } else {
-            let next = grown(so_far(p), b);
-            match next {
-                Next::Strange => return Count::Bad,
-                Next::Number(v) => p = Place::Within(v),
-            }
         }
-        i += 1;
+        p = next;
     }
     count = end(p, numbers, count);
     if numbers.len() < count {
-        return Count::Bad;
+        return None;
     }
-    Count::Read(count)
+    Some(count)
 }

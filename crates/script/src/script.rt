@@ -2,7 +2,7 @@
 ghost use Rattle.std.specs.Prelude.{◌≡◌, ◌≤◌, length};
 ghost use Rattle.script.specs.Script.{most, most_numbers, script_of, shape_of, CodeSays, ParseSays};
 
-use crate::numbers::{Count, read};
+use crate::numbers::read;
 use crate::steps::{code_steps, good_steps};
 
 // At most this many row numbers, this much room and this many steps.
@@ -17,7 +17,7 @@ pub const NUMBERS: usize = 32772;
 pub const BYTES: usize = 1048576;
 
 // The node count, how many row numbers there are, the room, and how many steps there are.
-#[derive(Clone, Copy)]
+#[derive(Clone, Copy, Debug, PartialEq, Eq)]
 pub struct Shape {
     pub nodes: u64,
     pub rows: usize,
@@ -25,74 +25,52 @@ pub struct Shape {
     pub steps: usize,
 }
 
-#[derive(Clone, Copy)]
-pub enum Parsed {
-    NoScript,
-    Script(Shape),
-}
-
 // The shape of a script's numbers: two in front of the rows, two behind them, and then the steps.
-fn shaped(numbers: &[u64]) -> Parsed
+fn shaped(numbers: &[u64]) -> Option<Shape>
     ensures { result ≡ shape_of (script_of numbers.now) }
 {
-    if numbers.len() < 4 {
-        return Parsed::NoScript;
+    if numbers.len() < 4 || MOST < numbers[1] {
+        return None;
     }
-    let rows = numbers[1];
-    if MOST < rows {
-        return Parsed::NoScript;
-    }
-    let from = rows as usize + 4;
+    let rows = numbers[1] as usize;
+    let from = rows + 4;
     if numbers.len() < from {
-        return Parsed::NoScript;
+        return None;
     }
     let room = numbers[from - 2];
-    if MOST < room {
-        return Parsed::NoScript;
-    }
     let steps = numbers[from - 1];
-    if MOST < steps {
-        return Parsed::NoScript;
+    if MOST < room || MOST < steps {
+        return None;
     }
-    if numbers.len() - from != 3 * steps as usize {
-        return Parsed::NoScript;
+    if numbers.len() - from != 3 * steps as usize || !good_steps(&numbers[from..]) {
+        return None;
     }
-    if !good_steps(&numbers[from..]) {
-        return Parsed::NoScript;
-    }
-    Parsed::Script(Shape {
+    Some(Shape {
         nodes: numbers[0],
-        rows: rows as usize,
+        rows,
         room: room as usize,
         steps: steps as usize,
     })
 }
 
 // The shape, with the steps written into a lent list.
-fn code(numbers: &[u64], steps: &mut [u64]) -> Parsed
+fn code(numbers: &[u64], steps: &mut [u64]) -> Option<Shape>
     requires { most ≤ length steps.old }
     ensures { CodeSays numbers.now steps.old steps.new result }
 {
-    let shape = shaped(numbers);
-    let Parsed::Script(s) = shape else {
-        return Parsed::NoScript;
-    };
-    let from = s.rows + 4;
-    code_steps(&numbers[from..], steps);
-    Parsed::Script(s)
+    let shape = shaped(numbers)?;
+    code_steps(&numbers[shape.rows + 4..], steps);
+    Some(shape)
 }
 
 // Reads a script: its numbers go to one lent list, its steps to another.
-pub fn parse(script: &[u8], numbers: &mut [u64], steps: &mut [u64]) -> Parsed
+pub fn parse(script: &[u8], numbers: &mut [u64], steps: &mut [u64]) -> Option<Shape>
     requires { (most_numbers ≤ length numbers.old) × (most ≤ length steps.old) }
     ensures { ParseSays script.now numbers.old steps.old numbers.new steps.new result }
 {
     if BYTES < script.len() {
-        return Parsed::NoScript;
+        return None;
     }
-    let read = read(script, numbers);
-    let Count::Read(count) = read else {
-        return Parsed::NoScript;
-    };
+    let count = read(script, numbers)?;
     code(&numbers[..count], steps)
 }

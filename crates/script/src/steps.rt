@@ -9,18 +9,14 @@ pub const KINDS: u64 = 65536;
 
 pub const PARTS: u64 = 16777216;
 
+#[tactic(auto, unfolding(crate::specs::Steps::good_step))]
 fn good_step(kind: u64, a: u64, b: u64) -> bool
     ensures { result ≡ good_step kind a b }
 {
-    if KINDS <= kind {
-        return false;
-    }
-    if PARTS <= a {
-        return false;
-    }
-    b < PARTS
+    kind < KINDS && a < PARTS && b < PARTS
 }
 
+#[tactic(auto, using(crate::proofs::Triples::good_bounds), unfolding(lent::specs::Steps::step_number))]
 fn step(kind: u64, a: u64, b: u64) -> u64
     requires { good_step kind a b ≡ true }
     ensures { result ≡ step_number kind a b }
@@ -29,15 +25,14 @@ fn step(kind: u64, a: u64, b: u64) -> u64
 }
 
 // Whether each step of a list can be held by one number.
+#[tactic(auto, using(crate::proofs::Triples::good_next, crate::proofs::Triples::good_not, crate::proofs::Triples::good_all))]
 pub fn good_steps(list: &[u64]) -> bool
     ensures { result ≡ good_steps list.now }
 {
-    let mut at: usize = 0;
-    while at + 2 < list.len() {
-        if !good_step(list[at], list[at + 1], list[at + 2]) {
+    for k in 0..list.len() / 3 {
+        if !good_step(list[3 * k], list[3 * k + 1], list[3 * k + 2]) {
             return false;
         }
-        at += 3;
     }
     true
 }
@@ -47,11 +42,7 @@ pub fn code_steps(list: &[u64], steps: &mut [u64])
     requires { (good_steps list.now ≡ true) × (length list.now ≤ 3 * length steps.old) }
     ensures { steps.new ≡ sets steps.old 0 (steps_of list.now) }
 {
-    let mut at: usize = 0;
-    let mut k: usize = 0;
-    while at + 2 < list.len() {
-        steps[k] = step(list[at], list[at + 1], list[at + 2]);
-        at += 3;
-        k += 1;
+    for k in 0..list.len() / 3 {
+        steps[k] = step(list[3 * k], list[3 * k + 1], list[3 * k + 2]);
     }
 }

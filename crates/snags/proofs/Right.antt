@@ -11,7 +11,7 @@ use borrow.Author.Tests.{lt-ltb, le-ltb, ltb-true, ltb-false, eqb-true, le-leb, 
 use Rattle.lemmas.proofs.Tests.{and_intro, and_left, and_right, true_or_false}
 use Rattle.text.specs.Words.{word}
 use Rattle.script.specs.declared.stops.Stop.{Stop}
-use Rattle.script.specs.declared.stops.Stop.TheVariants.{End, Odd as Stop-as-Odd, Large as Stop-as-Large}
+use Rattle.std.specs.Prelude.{Result, Ok, Err}
 use Rattle.script.specs.Numbers.{numbers_of}
 use Rattle.script.specs.Stops.{stop_of}
 use Rattle.script.specs.Steps.{good_step, good_steps}
@@ -21,7 +21,7 @@ use Rattle.script.proofs.Stopping.{at_end, good_ends}
 use Rattle.script.proofs.Parsing.{plain, meant_script, meant_none}
 use Rattle.script.proofs.Shapes.{tail_drop, script, Passed, is_script, none_or_passed, passed_numbers}
 use Rattle.snags.specs.declared.finding.Snag.{Snag}
-use Rattle.snags.specs.declared.finding.Snag.TheVariants.{Nothing, Long, Odd, Large, Crowd, Few, ManyRows, WideRoom, ManySteps, Uneven, Kind, First, Second}
+use Rattle.snags.specs.declared.finding.Snag.TheVariants.{Long, Odd, Large, Crowd, Few, ManyRows, WideRoom, ManySteps, Uneven, Kind, First, Second}
 use Rattle.snags.specs.Snags.{step_snag, row_count, front, room_in, step_count, wanted, numbers_snag, stop_snag, snag_of, words_for}
 use Rattle.snags.proofs.Found.{steps_left, stopped}
 
@@ -31,34 +31,34 @@ empty [] = true
 empty (x ∷ l) = false
 
 -- whether nothing is said
-abbrev none : Snag → Bool
+abbrev none : Result Unit Snag → Bool
 none s = empty (words_for s)
 
-none_is : (s : Snag) → none s ≡ true → s ≡ Nothing
+none_is : (s : Result Unit Snag) → none s ≡ true → s ≡ Ok tt
 unfolding words_for word
-none_is Nothing e = refl
-none_is Long e = absurd (false≢true e)
-none_is (Odd line) e = absurd (false≢true e)
-none_is (Large line) e = absurd (false≢true e)
-none_is Crowd e = absurd (false≢true e)
-none_is (Few there want) e = absurd (false≢true e)
-none_is ManyRows e = absurd (false≢true e)
-none_is WideRoom e = absurd (false≢true e)
-none_is ManySteps e = absurd (false≢true e)
-none_is (Uneven there want) e = absurd (false≢true e)
-none_is (Kind j) e = absurd (false≢true e)
-none_is (First j) e = absurd (false≢true e)
-none_is (Second j) e = absurd (false≢true e)
+none_is (Ok u) e = refl
+none_is (Err Long) e = absurd (false≢true e)
+none_is (Err (Odd line)) e = absurd (false≢true e)
+none_is (Err (Large line)) e = absurd (false≢true e)
+none_is (Err Crowd) e = absurd (false≢true e)
+none_is (Err (Few there want)) e = absurd (false≢true e)
+none_is (Err ManyRows) e = absurd (false≢true e)
+none_is (Err WideRoom) e = absurd (false≢true e)
+none_is (Err ManySteps) e = absurd (false≢true e)
+none_is (Err (Uneven there want)) e = absurd (false≢true e)
+none_is (Err (Kind j)) e = absurd (false≢true e)
+none_is (Err (First j)) e = absurd (false≢true e)
+none_is (Err (Second j)) e = absurd (false≢true e)
 
-pub no_words : (s : Snag) → words_for s ≡ [] → s ≡ Nothing
+pub no_words : (s : Result Unit Snag) → words_for s ≡ [] → s ≡ Ok tt
 no_words s e = none_is s (ap empty e)
 
 -- a test that gives a snag was false
-nothing_none : {s : Snag} → s ≡ Nothing → none s ≡ true
+nothing_none : {s : Result Unit Snag} → s ≡ Ok tt → none s ≡ true
 unfolding words_for
 nothing_none e = ap none e
 
-unless : (b : Bool) (x y : Snag) → none x ≡ false → cond b x y ≡ Nothing → (b ≡ false) × (y ≡ Nothing)
+unless : (b : Bool) (x y : Result Unit Snag) → none x ≡ false → cond b x y ≡ Ok tt → (b ≡ false) × (y ≡ Ok tt)
 unless true x y h e = absurd (true≢false (sym (nothing_none e) ∙ h))
 unless false x y h e = (refl, e)
 
@@ -70,8 +70,8 @@ above n m =
     (λ (e : ltb n m ≡ false). rw e (let h = ltb-false n m e in lt-ltb m (suc n) (omega arith)))
     (true_or_false (ltb n m))
 
-one_step : (x y z : Bool) (j : ℕ) (g : Bool) (r : Snag) → g ≡ none r
-    → ((not x && (not y && not z)) && g) ≡ none (cond x (Kind j) (cond y (First j) (cond z (Second j) r)))
+one_step : (x y z : Bool) (j : ℕ) (g : Bool) (r : Result Unit Snag) → g ≡ none r
+    → ((not x && (not y && not z)) && g) ≡ none (cond x (Err (Kind j)) (cond y (Err (First j)) (cond z (Err (Second j)) r)))
 unfolding words_for word
 one_step true y z j g r e = refl
 one_step false true z j g r e = refl
@@ -88,21 +88,21 @@ steps_none j (kind ∷ a ∷ b ∷ l) =
     (one_step (ltb 65535 kind) (ltb 16777215 a) (ltb 16777215 b) j (good_steps l) (step_snag (suc j) l) (steps_none (suc j) l))
 
 -- ---- the numbers
-passed_nothing : (l : List ℕ) → Passed l → Nothing ≡ numbers_snag l
+passed_nothing : (l : List ℕ) → Passed l → Ok tt ≡ numbers_snag l
 passed_nothing l p =
     steps_left l (passed_numbers l p) (omega (arith, p.enough)) p.few_rows p.enough p.small_room_lem p.few_steps (omega (arith, p.size, p.enough))
     (sym (none_is (step_snag 0 _) (sym (steps_none 0 _) ∙ p.good)))
 
-nothing_passed : (l : List ℕ) → numbers_snag l ≡ Nothing → Passed l
+nothing_passed : (l : List ℕ) → numbers_snag l ≡ Ok tt → Passed l
 unfolding numbers_snag words_for word
 nothing_passed l e =
-    let a = unless (ltb most_numbers (length l)) Crowd _ refl e in
-    let b = unless (ltb (length l) 4) (Few (length l) 4) _ refl a.1 in
-    let c = unless (ltb most (row_count l)) ManyRows _ refl b.1 in
-    let d = unless (ltb (length l) (front l)) (Few (length l) (front l)) _ refl c.1 in
-    let f = unless (ltb most (room_in l)) WideRoom _ refl d.1 in
-    let g = unless (ltb most (step_count l)) ManySteps _ refl f.1 in
-    let h = unless (not (eqb (length l) (wanted l))) (Uneven (length l) (wanted l)) (step_snag 0 (drop (front l) l)) refl g.1 in
+    let a = unless (ltb most_numbers (length l)) (Err Crowd) _ refl e in
+    let b = unless (ltb (length l) 4) (Err (Few (length l) 4)) _ refl a.1 in
+    let c = unless (ltb most (row_count l)) (Err ManyRows) _ refl b.1 in
+    let d = unless (ltb (length l) (front l)) (Err (Few (length l) (front l))) _ refl c.1 in
+    let f = unless (ltb most (room_in l)) (Err WideRoom) _ refl d.1 in
+    let g = unless (ltb most (step_count l)) (Err ManySteps) _ refl f.1 in
+    let h = unless (not (eqb (length l) (wanted l))) (Err (Uneven (length l) (wanted l))) (step_snag 0 (drop (front l) l)) refl g.1 in
     let size = eqb-true (length l) (wanted l) (not-false _ h.0) in
     record {
       enough = ltb-false (length l) (front l) d.0;
@@ -114,26 +114,23 @@ nothing_passed l e =
     }
 
 -- ---- the bytes
-end_is : (s : Stop) → at_end s ≡ true → s ≡ End
-end_is End e = refl
-end_is (Stop-as-Odd line) e = absurd (false≢true e)
-end_is (Stop-as-Large line) e = absurd (false≢true e)
+end_is : (s : Result Unit Stop) → at_end s ≡ true → s ≡ Ok tt
+end_is (Ok u) e = refl
+end_is (Err s) e = absurd (false≢true e)
 
-stop_nothing : (s : Stop) (l : List ℕ) → stop_snag s l ≡ Nothing → (at_end s ≡ true) × (numbers_snag l ≡ Nothing)
-unfolding words_for word
-stop_nothing End l e = (refl, e)
-stop_nothing (Stop-as-Odd line) l e = absurd (false≢true (nothing_none e))
-stop_nothing (Stop-as-Large line) l e = absurd (false≢true (nothing_none e))
+stop_nothing : (s : Result Unit Stop) (l : List ℕ) → stop_snag s l ≡ Ok tt → (at_end s ≡ true) × (numbers_snag l ≡ Ok tt)
+stop_nothing (Ok u) l e = (refl, e)
+stop_nothing (Err s) l e = absurd (cc)
 
 module _ (bytes : List ℕ) where
   abbrev numbers : List ℕ
   numbers = (numbers_of bytes).numbers
 
   not_script : {s : Script} → NoScript ≡ IsScript s → ⊥
-  not_script e = let z : ◌≡◌ {A = ℕ} 0 1 = cc e in omega arith
+  not_script e = cc
 
   -- Theorem: there is no snag in a script,
-  pub script_nothing : (s : Script) → meant_by bytes ≡ IsScript s → snag_of bytes ≡ Nothing
+  pub script_nothing : (s : Script) → meant_by bytes ≡ IsScript s → snag_of bytes ≡ Ok tt
   script_nothing s e =
       ⊎_elim
       (λ (t : plain bytes ≡ true).
@@ -141,15 +138,15 @@ module _ (bytes : List ℕ) where
       let end = end_is (stop_of bytes) (sym (good_ends bytes) ∙ and_right (leb (length bytes) longest) (numbers_of bytes).good t) in
       let passed : Passed numbers =
       ⊎_elim (λ (n : script_of numbers ≡ NoScript). absurd (not_script (sym (meant_script bytes t ∙ n) ∙ e))) (λ (p : Passed numbers). p) (none_or_passed numbers) in
-      sym (stopped bytes short End (sym end) refl (passed_nothing numbers passed)))
+      sym (stopped bytes short (sym end) (passed_nothing numbers passed)))
       (λ (t : plain bytes ≡ false). absurd (not_script (sym (meant_none bytes t) ∙ e)))
       (true_or_false (plain bytes))
 
   -- Theorem: and where there is none it is one.
-  pub nothing_script : snag_of bytes ≡ Nothing → (s : Script) × (meant_by bytes ≡ IsScript s)
+  pub nothing_script : snag_of bytes ≡ Ok tt → (s : Script) × (meant_by bytes ≡ IsScript s)
   unfolding snag_of words_for word
   nothing_script e =
-      let a = unless (ltb longest (length bytes)) Long _ refl e in
+      let a = unless (ltb longest (length bytes)) (Err Long) _ refl e in
       let b = stop_nothing (stop_of bytes) numbers a.1 in
       let t : plain bytes ≡ true =
       and_intro (leb (length bytes) longest) (numbers_of bytes).good (le-leb (length bytes) longest (ltb-false longest (length bytes) a.0)) (good_ends bytes ∙ b.0)

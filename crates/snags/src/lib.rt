@@ -22,9 +22,12 @@ pub fn snag_room() -> [u8; WORDS]
 }
 
 // Writes why bytes are no script, and says where that ends; nothing is written of bytes that are one.
+#[tactic(auto, unfolding(crate::specs::Snags::words_for, text::specs::Text::write))]
 pub fn snags(script: &[u8], room: &mut [u8]) -> usize
     ensures { text room.new result ≡ write (text room.old 0) (words_for (snag_of script.now)) }
 {
-    let snag = snag_in(script);
-    words(room, snag)
+    match snag_in(script) {
+        Ok(()) => 0,
+        Err(snag) => words(room, snag),
+    }
 }

@@ -1,5 +1,5 @@
 // The words for a snag, written into lent bytes.
-ghost use Rattle.std.specs.Prelude.{◌≡◌};
+ghost use Rattle.std.specs.Prelude.{◌≡◌, Err};
 ghost use Rattle.text.specs.Text.{text, write};
 ghost use Rattle.snags.specs.Snags.{placed as Placed-of, counted as Counted-of, words_for};
 
@@ -7,6 +7,7 @@ use crate::finding::Snag;
 use text::{bytes, number};
 
 // A line or a step, and what is said of it.
+#[tactic(auto, using(text::proofs::Writing::write_both))]
 fn placed(room: &mut [u8], name: &[u8], n: usize, said: &[u8]) -> usize
     ensures { text room.new result ≡ write (text room.old 0) (Placed-of name.now n said.now) }
 {
@@ -27,11 +28,11 @@ fn counted(room: &mut [u8], there: usize, least: &[u8], want: usize) -> usize
 }
 
 // Any snag.
+#[tactic(auto, unfolding(crate::specs::Snags::words_for, text::specs::Words::word))]
 pub fn words(room: &mut [u8], snag: Snag) -> usize
-    ensures { text room.new result ≡ write (text room.old 0) (words_for snag) }
+    ensures { text room.new result ≡ write (text room.old 0) (words_for (Err snag)) }
 {
     match snag {
-        Snag::Nothing => 0,
         Snag::Long => bytes(room, 0, b"the script has more than 1048576 bytes\n"),
         Snag::Odd(line) => placed(
             room,

@@ -11,8 +11,7 @@ use Rattle.bench.specs.Runs.{run_of}
 use Rattle.text.specs.Text.{Text, write}
 use Rattle.lines.specs.Lines.{no_script_line}
 use Rattle.script.specs.declared.script.Shape.{Shape}
-use Rattle.script.specs.declared.script.Parsed.{Parsed}
-use Rattle.script.specs.declared.script.Parsed.TheVariants.{NoScript as Parsed-as-NoScript, Script as Parsed-as-Script}
+use Rattle.std.specs.Prelude.{Option, Some, None}
 use Rattle.script.specs.Script.{most, most_numbers, Script, Meant, meant_by, steps_in, numbers_read, ParseSays}
 use Rattle.script.specs.Script.Meant.{IsScript}
 use Rattle.script.proofs.Settled.{Stands, parse_none, parse_script}
@@ -42,12 +41,12 @@ played_as numbers steps h r rows messages answers t l e says f =
     ∙ ap (λ (x : List ℕ). told (run_of h.nodes x (fresh h.nodes (zeros h.room)) (take h.steps steps) (zeros (length (take h.steps steps))))) e)
 
 -- ---- what the parser found
-module _ (bytes numbers steps numbers' steps' : List ℕ) {p : Parsed} (says : ParseSays bytes numbers steps numbers' steps' p) where
-  pub none_meant : (t : Text) {u : Text} → p ≡ Parsed-as-NoScript → u ≡ write t no_script_line → u ≡ write t (transcript_of bytes)
+module _ (bytes numbers steps numbers' steps' : List ℕ) {p : Option Shape} (says : ParseSays bytes numbers steps numbers' steps' p) where
+  pub none_meant : (t : Text) {u : Text} → p ≡ None → u ≡ write t no_script_line → u ≡ write t (transcript_of bytes)
   unfolding transcript_of
   none_meant t e f = f ∙ ap (λ (m : Meant). write t (answered_by m)) (sym (parse_none bytes numbers steps numbers' steps' (rw e at says)))
 
-  module _ (m : most_numbers ≤ length numbers) (n : most ≤ length steps) (h : Shape) (e : p ≡ Parsed-as-Script h) where
+  module _ (m : most_numbers ≤ length numbers) (n : most ≤ length steps) (h : Shape) (e : p ≡ Some h) where
     found : (s : Script) × (meant_by bytes ≡ IsScript s) × Stands numbers' steps steps' s h
     found = parse_script bytes numbers steps numbers' steps' m n h (rw e at says)
 

@@ -11,7 +11,7 @@ use bench::{Ran, run};
 use lent::{message_of, record_numbers, records_room};
 use nodes::Round;
 use records::Message;
-use script::{NUMBERS, Parsed, STEPS, Shape, parse};
+use script::{NUMBERS, STEPS, Shape, parse};
 use waits::Checked;
 
 // One byte more than a script may have, so that a longer one is seen to be too long.
@@ -136,9 +136,8 @@ pub fn transcript(script: &[u8], room: &mut [u8]) -> usize
 {
     let mut numbers = [0u64; NUMBERS];
     let mut steps = [0u64; STEPS];
-    let parsed = parse(script, &mut numbers, &mut steps);
-    let Parsed::Script(shape) = parsed else {
-        return lines::no_script(room, 0);
-    };
-    play(room, &numbers, &steps, shape)
+    match parse(script, &mut numbers, &mut steps) {
+        None => lines::no_script(room, 0),
+        Some(shape) => play(room, &numbers, &steps, shape),
+    }
 }

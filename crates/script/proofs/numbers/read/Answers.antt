@@ -1,54 +1,25 @@
--- `read` meets its contract. The loop's invariant: what was stored and counted, and what the rest of the text says, are what the
--- whole text says. Assumes nothing.
-use mathlib.Core.Path.{sym, ◌∙◌}
-use native.Mathlib.Omega.{arith}
-use borrow.Author.Rules.{rules}
-use Rattle.lemmas.proofs.Cases.{flag}
-use Rattle.script.proofs.Reading.{reading_start, reading_blank, reading_grown, reading_strange, reading_many, reading_all}
+-- `read` meets its contract. Assumes nothing.
+use mathlib.Core.Path.{sym, ap, ◌∙◌}
+use mathlib.Core.Bool.{not}
+use Rattle.script.proofs.Reading.{reading_start, reading_ended, reading_grown, reading_strange, reading_many, reading_all}
 use Rattle.script.proofs.numbers.read.Goals as goal
-use Rattle.script.proofs.numbers.read.Goals.{then-blank, else-blank+in-Number}
+use Rattle.script.proofs.numbers.read.Goals.{then-is_none, else-is_none}
 
-pub loop-i-init : goal.loop-i-init
-loop-i-init c = (search rules, reading_start _ _)
+pub loop-b-init : goal.loop-b-init
+loop-b-init c = reading_start _ _
 
-pub bounds-script-i : goal.bounds-script-i
-bounds-script-i c = omega arith
+pub returns-in_err-next : goal.returns-in_err-next
+returns-in_err-next c = rw c.from_residual.ensures (reading_strange _ _ _ _ _ _ c.loop-b.invariant c.loop-b-test.true (sym c.in_err-next.was ∙ c.place_after.ensures))
 
-pub end-count-requires : goal.end-count-requires
-end-count-requires c = omega arith
-
-pub shape_of-numbers-in-Strange : goal.shape_of-numbers-in-Strange
-shape_of-numbers-in-Strange c = c.loop-i.invariant.1.long
-
-pub returns-in-Strange : goal.returns-in-Strange
-returns-in-Strange c = reading_strange _ _ _ _ _ _ c.loop-i.invariant.1 c.loop-i-test.true (flag c.blank.ensures c.if-blank.false) c.so_far.ensures (sym c.in-Strange.is ∙ c.grown-next.ensures)
-
-pub overflow_add-i : goal.overflow_add-i
-overflow_add-i c = omega arith
-
-pub loop-i-smaller : goal.loop-i-smaller
-loop-i-smaller c = omega arith
-
-pub loop-i-preserved : goal.loop-i-preserved
-loop-i-preserved c = (
-  omega arith,
-  elim c.if-blank.branch [
-    | then-blank w ↦ rw (w.numbers-is, w.count-is, w.p-is) (reading_blank _ _ _ _ _ _ c.loop-i.invariant.1 c.loop-i-test.true (flag c.blank.ensures w.if-blank.true) w.end-count.ensures)
-    | else-blank+in-Number w ↦ rw (w.numbers-is, w.count-is, w.p-is) (reading_grown _ _ _ _ _ _ c.loop-i.invariant.1 c.loop-i-test.true (flag c.blank.ensures w.if-blank.false) w.so_far.ensures _ (sym w.in-Number.is ∙ w.grown-next.ensures))
-  ],
-)
-
-pub end-count-requires-2 : goal.end-count-requires-2
-end-count-requires-2 c = omega arith
-
-pub shape_of-numbers-then-numbers-count : goal.shape_of-numbers-then-numbers-count
-shape_of-numbers-then-numbers-count c = c.end-count-2.auto.numbers ∙ c.loop-i.invariant.1.long
+pub loop-b-preserved : goal.loop-b-preserved
+loop-b-preserved c =
+    elim c.if-is_none.branch [
+      | then-is_none w ↦ rw (w.numbers-is, w.count-is, w.p-is) (reading_ended _ _ _ _ _ _ c.loop-b.invariant c.loop-b-test.true _ (sym c.in_ok-next.was ∙ c.place_after.ensures) (c.is_none.ensures ∙ ap not w.if-is_none.true) w.end-count.ensures)
+      | else-is_none w ↦ rw (w.numbers-is, w.count-is, w.p-is) (reading_grown _ _ _ _ _ _ c.loop-b.invariant c.loop-b-test.true _ (sym c.in_ok-next.was ∙ c.place_after.ensures) (c.is_none.ensures ∙ ap not w.if-is_none.false))
+    ]
 
 pub returns-then-numbers-count : goal.returns-then-numbers-count
-returns-then-numbers-count c = reading_many _ _ _ _ _ _ c.loop-i.invariant.1 c.loop-i-test.false c.end-count-2.ensures c.if-numbers-count.true
-
-pub shape_of-numbers : goal.shape_of-numbers
-shape_of-numbers c = c.end-count-2.auto.numbers ∙ c.loop-i.invariant.1.long
+returns-then-numbers-count c = reading_many _ _ _ _ _ _ c.loop-b.invariant c.loop-b-test.false c.end-count-2.ensures c.if-numbers-count.true
 
 pub returns : goal.returns
-returns c = reading_all _ _ _ _ _ _ c.loop-i.invariant.1 c.loop-i-test.false c.end-count-2.ensures c.if-numbers-count.false
+returns c = reading_all _ _ _ _ _ _ c.loop-b.invariant c.loop-b-test.false c.end-count-2.ensures c.if-numbers-count.false
