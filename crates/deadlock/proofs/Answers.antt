@@ -6,6 +6,7 @@ use mathlib.Core.List.{List, ◌++◌}
 use Prim.Native.Nat.{ℕ, ◌≤◌, ◌<◌}
 use native.Mathlib.Omega.{arith}
 use lib.ListN.{length, drop}
+use Rattle.std.specs.Prelude.{Ok}
 use Rattle.lemmas.proofs.Tests.{not_both}
 use Rattle.nodes.specs.Sets.{In, Inside, has, meet, with, below, members, size}
 use Rattle.nodes.specs.Words.{places}
@@ -14,7 +15,6 @@ use Rattle.nodes.proofs.Operations.{in_meet, in_with, in_below}
 use Rattle.nodes.proofs.Inside.{inside_in}
 use Rattle.nodes.proofs.Members.{members_in, members_ascending}
 use Rattle.nodes.proofs.Size.{size_members}
-use Rattle.waits.specs.declared.numbers.Checked.TheVariants.{Accepted}
 use Rattle.waits.specs.Waits.{Waits, Lawful}
 use Rattle.waits.specs.Deadlocked.{Deadlocked, Path, Reachable}
 use Rattle.waits.specs.Rows.{waits_of, Shaped}
@@ -22,8 +22,8 @@ use Rattle.waits.specs.Numbers.{check_of}
 use Rattle.waits.proofs.Table.{accepted_shaped}
 use Rattle.waits.proofs.Lawful.{accepted_lawful, accepted_met}
 use Rattle.deadlock.specs.Refusals.{strange_entry, check_node_of, check_list_of, check_room_of}
+use Rattle.deadlock.specs.Claims.{ClaimSays}
 use Rattle.deadlock.specs.Evidence.{Evidence, WrittenSays}
-use Rattle.deadlock.specs.declared.evidence.Written.TheVariants.{Bytes}
 use Rattle.deadlock.specs.declared.ring.Report.TheVariants.{InRing, BehindRing, NotDeadlocked}
 use Rattle.deadlock.specs.Ring.{LeadsTo, ReportSays}
 use Rattle.deadlock.specs.Sweeps.{stuck, ahead, knot}
@@ -67,12 +67,12 @@ module _ (w : Waits) (law : Lawful w) (i : ℕ) (h : i < w.nodes) where
   }
 
 -- ---- all claims of a graph that isn't refused
-pub found : (n : ℕ) (rows : List ℕ) → check_of n rows ≡ Accepted → (s : ℕ) → s ≡ stuck (waits_of n rows)
+pub found : (n : ℕ) (rows : List ℕ) → check_of n rows ≡ Ok tt → (s : ℕ) → s ≡ stuck (waits_of n rows)
     → (k : ℕ) → In k s ↔ ((k < n) × Deadlocked (waits_of n rows) k)
 found n rows ok s e k = rw e (stuck_iff (waits_of n rows) (accepted_lawful n rows ok) k)
 
 -- ---- a node asked about, where the question isn't refused
-module _ (n : ℕ) (rows : List ℕ) (i : ℕ) (ok : check_node_of n rows i ≡ Accepted) where
+module _ (n : ℕ) (rows : List ℕ) (i : ℕ) (ok : check_node_of n rows i ≡ Ok tt) where
   law : Lawful (waits_of n rows)
   law = accepted_lawful n rows (node_accepted n rows i ok).0
 
@@ -88,18 +88,22 @@ module _ (n : ℕ) (rows : List ℕ) (i : ℕ) (ok : check_node_of n rows i ≡ 
   pub not_stuck : has (stuck (waits_of n rows)) i ≡ false → Deadlocked (waits_of n rows) i → ⊥
   not_stuck = stuck_no (waits_of n rows) law i here
 
+  pub claimed : {b : Bool} → has (stuck (waits_of n rows)) i ≡ b → ClaimSays n rows i (Ok b)
+  claimed {b = true} e = (ok, is_stuck e)
+  claimed {b = false} e = (ok, not_stuck e)
+
   -- where it stands, from the stuck nodes and those to which a path leads from it within them
-  pub not_in_ring : has (stuck (waits_of n rows)) i ≡ false → ReportSays n rows i NotDeadlocked
+  pub not_in_ring : has (stuck (waits_of n rows)) i ≡ false → ReportSays n rows i (Ok NotDeadlocked)
   not_in_ring e = (ok, not_stuck e)
 
-  pub in_ring : has (stuck (waits_of n rows)) i ≡ true → has (led (waits_of n rows) i) i ≡ true → ReportSays n rows i InRing
+  pub in_ring : has (stuck (waits_of n rows)) i ≡ true → has (led (waits_of n rows) i) i ≡ true → ReportSays n rows i (Ok InRing)
   in_ring e f = (ok, is_stuck e, (leads_iff (waits_of n rows) law i (has_in _ _ e) i).0 (has_in _ _ f))
 
-  pub behind_ring : has (stuck (waits_of n rows)) i ≡ true → has (led (waits_of n rows) i) i ≡ false → ReportSays n rows i BehindRing
+  pub behind_ring : has (stuck (waits_of n rows)) i ≡ true → has (led (waits_of n rows) i) i ≡ false → ReportSays n rows i (Ok BehindRing)
   behind_ring e f = (ok, is_stuck e, λ r. not_both (in_has _ _ ((leads_iff (waits_of n rows) law i (has_in _ _ e) i).1 r)) f)
 
   -- Theorem: if it is deadlocked, it leads to a node that is reported as in the ring.
-  pub to_ring : Deadlocked (waits_of n rows) i → (j : ℕ) × LeadsTo (waits_of n rows) i j × ReportSays n rows j InRing
+  pub to_ring : Deadlocked (waits_of n rows) i → (j : ℕ) × LeadsTo (waits_of n rows) i j × ReportSays n rows j (Ok InRing)
   to_ring d =
       let graph = (node_accepted n rows i ok).0 in
       let (j, l, r) = leads_to_ring (waits_of n rows) law (accepted_met n rows graph) i here d in
@@ -112,17 +116,17 @@ module _ (n : ℕ) (rows : List ℕ) (i : ℕ) (ok : check_node_of n rows i ≡ 
   asked_evidence s e = rw e (knot_evidence (waits_of n rows) law i here)
 
 -- ---- lent room
-pub room_shaped : (n : ℕ) (rows : List ℕ) (i room : ℕ) → check_room_of n rows i room ≡ Accepted → Shaped n rows × (i < n)
+pub room_shaped : (n : ℕ) (rows : List ℕ) (i room : ℕ) → check_room_of n rows i room ≡ Ok tt → Shaped n rows × (i < n)
 room_shaped n rows i room ok = node_shaped n rows i (room_accepted n rows i room ok).0
 
-pub room_write : (n : ℕ) (rows : List ℕ) (i : ℕ) (found : List ℕ) (s : ℕ) → check_room_of n rows i (length found) ≡ Accepted → s ≡ knot (waits_of n rows) i
+pub room_write : (n : ℕ) (rows : List ℕ) (i : ℕ) (found : List ℕ) (s : ℕ) → check_room_of n rows i (length found) ≡ Ok tt → s ≡ knot (waits_of n rows) i
     → Inside s (below n) × (n ≤ places) × (n ≤ length found)
 room_write n rows i found s ok e =
     let p = room_accepted n rows i (length found) ok in
     (knot_below n rows i p.0 s e, (node_shaped n rows i p.0).0.0, p.1)
 
-pub room_written : (n : ℕ) (rows : List ℕ) (i : ℕ) (found left : List ℕ) (s k : ℕ) → check_room_of n rows i (length found) ≡ Accepted → s ≡ knot (waits_of n rows) i
-    → (k ≡ size s) × (left ≡ members s ++ drop (size s) found) → WrittenSays n rows i found left (Bytes k)
+pub room_written : (n : ℕ) (rows : List ℕ) (i : ℕ) (found left : List ℕ) (s k : ℕ) → check_room_of n rows i (length found) ≡ Ok tt → s ≡ knot (waits_of n rows) i
+    → (k ≡ size s) × (left ≡ members s ++ drop (size s) found) → WrittenSays n rows i found left (Ok k)
 room_written n rows i found left s k ok e w = (
   ok,
   (
@@ -134,5 +138,5 @@ room_written n rows i found left s k ok e w = (
 )
 
 -- ---- a list that is offered
-pub list_shaped : (n : ℕ) (rows : List ℕ) (i : ℕ) (l : List ℕ) → check_list_of n rows i l ≡ Accepted → Shaped n rows × (strange_entry n l ≡ false)
+pub list_shaped : (n : ℕ) (rows : List ℕ) (i : ℕ) (l : List ℕ) → check_list_of n rows i l ≡ Ok tt → Shaped n rows × (strange_entry n l ≡ false)
 list_shaped n rows i l ok = let p = list_accepted n rows i l ok in ((node_shaped n rows i p.0).0, p.1)

@@ -1,15 +1,19 @@
 -- What the callees said, over plain variables: facts that several functions of this crate cite. Assumes nothing.
 use mathlib.Core.Path.{◌≡◌, refl, sym, ap, ap₂, ◌∙◌}
-use mathlib.Core.Bool.{Bool, true, false}
+use mathlib.Core.Bool.{Bool, true, false, ◌&&◌, ◌||◌}
 use mathlib.Core.Logic.{◌↔◌}
-use mathlib.Core.List.{List, [], Memᴰ}
-use Prim.Native.Nat.{ℕ, ◌+◌, ◌≤◌, ◌<◌}
+use mathlib.Core.List.{List, [], ◌∷◌, Memᴰ}
+use Prim.Native.Nat.{ℕ, zero, suc, ◌+◌, ◌≤◌, ◌<◌}
 use native.Mathlib.Numerals.{add-one}
 use native.Mathlib.Omega.{arith}
+use lib.Dec.{ltb}
 use lib.ListN.{length, get_or, take}
 use lib.Seq.{take-suc}
 use borrow.Author.Tests.{leb-false, le-leb, lt-leb}
+use Rattle.std.specs.List.{list_any, IsAllAdjacentAnswer}
+use Rattle.lemmas.specs.Lists.{any_of, ascending}
 use Rattle.lemmas.proofs.Any.{any_none, none_at}
+use Rattle.lemmas.proofs.Tests.{and_later}
 use Rattle.nodes.specs.Sets.{has, meet, minus, with, below, set_of, no_node}
 use Rattle.nodes.proofs.Gather.{list_snoc}
 use Rattle.waits.specs.declared.rows.Row.{Row}
@@ -37,6 +41,22 @@ pub within_same : (w : Waits) (i : ℕ) {r s t : ℕ} → r ≡ ahead_within w t
 within_same w i e f = e ∙ ap (λ (x : ℕ). ahead_within w x i) f
 
 -- ---- lists of bytes
+-- what the library says of a test of some entry, and of each entry and the next
+pub any_entry : (p : ℕ → Bool) (l : List ℕ) → list_any p l ≡ any_of p l
+any_entry p [] = refl
+any_entry p (a ∷ l) = ap (λ (b : Bool). p a || b) (any_entry p l)
+
+pub each_below_next : (l : List ℕ) (r : Bool) → IsAllAdjacentAnswer (λ x y b. b ≡ ltb x y) l r → r ≡ ascending l
+each_below_next [] true h = refl
+each_below_next (a ∷ []) true h = refl
+each_below_next (a ∷ b ∷ l) true h =
+    ap₂ ◌&&◌ (h 0 0 (omega arith)) (each_below_next (b ∷ l) true (λ k d m. rw (add-one k) (rw (add-one (suc k)) at (h (suc k) d (omega arith)))))
+each_below_next [] false (k, m, e) = absurd (omega arith)
+each_below_next (a ∷ []) false (k, m, e) = absurd (omega arith)
+each_below_next (a ∷ b ∷ l) false (zero, m, e) = ap (λ (t : Bool). t && ascending (b ∷ l)) (e 0)
+each_below_next (a ∷ b ∷ l) false (suc k, m, e) =
+    sym (and_later (ltb a b) (sym (each_below_next (b ∷ l) false (k, omega arith, λ d. rw (add-one k) (rw (add-one (suc k)) at (e d))))))
+
 pub entry_node : (n : ℕ) (l : List ℕ) (at : ℕ) → at < length l → strange_entry n l ≡ false → get_or l at 0 < n
 unfolding strange_entry no_node
 entry_node n l at h e = leb-false n (get_or l at 0) (none_at (no_node n) l at h e)

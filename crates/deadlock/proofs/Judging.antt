@@ -8,6 +8,7 @@ use mathlib.Core.List.Memᴰ.{head as here}
 use mathlib.Core.List.Memᴰ.{tail as there}
 use Prim.Native.Nat.{ℕ, ◌+◌, ◌≤◌, ◌<◌}
 use lib.ListN.{length, get_or}
+use Rattle.std.specs.Prelude.{Result, Ok, Err}
 use Rattle.lemmas.proofs.Tests.{not_both, not_true_false, true_or_false}
 use Rattle.lemmas.proofs.Cases.{at_true, at_false, both_branches}
 use Rattle.lemmas.proofs.Walks.{Left, left_next, left_passed, left_ended}
@@ -16,14 +17,11 @@ use Rattle.nodes.specs.Sets.{has, set_of}
 use Rattle.nodes.proofs.Bit.{has_in, in_has}
 use Rattle.nodes.proofs.Gather.{list_in, in_list}
 use Rattle.waits.specs.declared.numbers.Refusal.{Refusal}
-use Rattle.waits.specs.declared.numbers.Checked.{Checked}
-use Rattle.waits.specs.declared.numbers.Checked.TheVariants.{Accepted, Refused}
 use Rattle.waits.specs.Waits.{Waits}
 use Rattle.waits.specs.Deadlocked.{outside, passes}
 use Rattle.waits.specs.Rows.{waits_of}
-use Rattle.waits.proofs.Table.{refused_not_accepted}
 use Rattle.deadlock.specs.declared.evidence.Judged.{Judged}
-use Rattle.deadlock.specs.declared.evidence.Judged.TheVariants.{Passes, ClaimMissing, MemberSatisfied, Refused as Judged-as-Refused}
+use Rattle.deadlock.specs.declared.evidence.Judged.TheVariants.{Passes, ClaimMissing, MemberSatisfied}
 use Rattle.deadlock.specs.Refusals.{check_list_of}
 use Rattle.deadlock.specs.Evidence.{first_satisfied, judgement, judged, judged_of}
 use Rattle.deadlock.proofs.Passing.{passes_iff}
@@ -126,45 +124,37 @@ module _ (w : Waits) (i : ℕ) (l : List ℕ) where
   pub judgement_member : (k : Node) → (judgement w i l ≡ MemberSatisfied k) ↔ (Memᴰ i l × Foremost w (outside w l) l k.0)
   judgement_member k = of_members (λ q. true≢false (cc q)) (first_member w (outside w l) l k)
 
-  -- Law: and nothing is refused.
-  pub judgement_plain : (r : Refusal) → judgement w i l ≡ Judged-as-Refused r → ⊥
-  unfolding judgement
-  judgement_plain r =
-      both_branches (λ x. x ≡ Judged-as-Refused r → ⊥) (has (set_of l) i)
-      (first_one_of w (outside w l) (λ x. x ≡ Judged-as-Refused r → ⊥) (λ q. true≢false (cc q)) (λ k q. true≢false (cc q)) l)
-      (λ q. true≢false (cc q))
-
 -- ---- refused, or that
 module _ (n : ℕ) (rows : List ℕ) (i : ℕ) (l : List ℕ) where
-  pub judged_refused : {r : Refusal} → check_list_of n rows i l ≡ Refused r → Judged-as-Refused r ≡ judged_of n rows i l
+  pub judged_refused : {r : Refusal} → check_list_of n rows i l ≡ Err r → Err r ≡ judged_of n rows i l
   unfolding judged_of
-  judged_refused e = sym (ap (λ (x : Checked). judged x (judgement (waits_of n rows) i l)) e)
+  judged_refused e = sym (ap (λ (x : Result Unit Refusal). judged x (judgement (waits_of n rows) i l)) e)
 
-  pub judged_as : check_list_of n rows i l ≡ Accepted → judgement (waits_of n rows) i l ≡ judged_of n rows i l
+  pub judged_as : check_list_of n rows i l ≡ Ok tt → Ok (judgement (waits_of n rows) i l) ≡ judged_of n rows i l
   unfolding judged_of
-  judged_as e = sym (ap (λ (x : Checked). judged x (judgement (waits_of n rows) i l)) e)
+  judged_as e = sym (ap (λ (x : Result Unit Refusal). judged x (judgement (waits_of n rows) i l)) e)
 
   -- Law: the answer is a refusal exactly if the list is refused with it;
-  pub judged_refusal : (r : Refusal) → (judged_of n rows i l ≡ Judged-as-Refused r) ↔ (check_list_of n rows i l ≡ Refused r)
+  pub judged_refusal : (r : Refusal) → (judged_of n rows i l ≡ Err r) ↔ (check_list_of n rows i l ≡ Err r)
   unfolding judged_of
-  judged_refusal r = by_check (check_list_of n rows i l) (judgement (waits_of n rows) i l) (judgement_plain (waits_of n rows) i l r)
+  judged_refusal r = by_check (check_list_of n rows i l) (judgement (waits_of n rows) i l)
     where
-      by_check : (c : Checked) (x : Judged) → (x ≡ Judged-as-Refused r → ⊥) → (judged c x ≡ Judged-as-Refused r) ↔ (c ≡ Refused r)
-      by_check Accepted x plain = (λ e. absurd (plain e), λ e. absurd (refused_not_accepted (sym e)))
-      by_check (Refused t) x plain = (λ e. let same : t ≡ r = cc e in ap Refused same, λ e. let same : t ≡ r = cc e in ap Judged-as-Refused same)
+      by_check : (c : Result Unit Refusal) (x : Judged) → (judged c x ≡ Err r) ↔ (c ≡ Err r)
+      by_check (Ok u) x = (λ e. absurd (true≢false (cc e)), λ e. absurd (true≢false (cc e)))
+      by_check (Err t) x = (λ e. let same : t ≡ r = cc e in ap Err same, λ e. let same : t ≡ r = cc e in ap Err same)
 
   -- Law: and it is anything else exactly if the list isn't refused and that is what is said of it.
-  pub judged_said : (y : Judged) → ((r : Refusal) → y ≡ Judged-as-Refused r → ⊥)
-      → (judged_of n rows i l ≡ y) ↔ ((check_list_of n rows i l ≡ Accepted) × (judgement (waits_of n rows) i l ≡ y))
-  judged_said y plain = (by_check (check_list_of n rows i l) refl, λ p. sym (judged_as p.0) ∙ p.1)
+  pub judged_said : (y : Judged) → (judged_of n rows i l ≡ Ok y) ↔ ((check_list_of n rows i l ≡ Ok tt) × (judgement (waits_of n rows) i l ≡ y))
+  judged_said y = (by_check (check_list_of n rows i l) refl, λ p. sym (judged_as p.0) ∙ ap Ok p.1)
     where
-      by_check : (c : Checked) → check_list_of n rows i l ≡ c → judged_of n rows i l ≡ y → (check_list_of n rows i l ≡ Accepted) × (judgement (waits_of n rows) i l ≡ y)
-      by_check Accepted q e = (q, judged_as q ∙ e)
-      by_check (Refused t) q e = absurd (plain t (sym (judged_refused q ∙ e)))
+      by_check : (c : Result Unit Refusal) → check_list_of n rows i l ≡ c → judged_of n rows i l ≡ Ok y
+          → (check_list_of n rows i l ≡ Ok tt) × (judgement (waits_of n rows) i l ≡ y)
+      by_check (Ok u) q e = (q, let p : Ok (judgement (waits_of n rows) i l) ≡ Ok y = judged_as q ∙ e in cc p)
+      by_check (Err t) q e = absurd (true≢false (let p : Err t ≡ Ok y = judged_refused q ∙ e in cc p))
 
   -- Law: the member that is named is a node of the graph.
-  pub member_node : (k : Node) → judged_of n rows i l ≡ MemberSatisfied k → k.0 < n
+  pub member_node : (k : Node) → judged_of n rows i l ≡ Ok (MemberSatisfied k) → k.0 < n
   member_node k e =
-      let (ok, said) = (judged_said (MemberSatisfied k) (λ r q. true≢false (cc q))).0 e in
+      let (ok, said) = (judged_said (MemberSatisfied k)).0 e in
       let (before, after, s, h, u) = ((judgement_member (waits_of n rows) i l k).0 said).1 in
       (entries_nodes n l).0 (list_accepted n rows i l ok).1 k.0 (rw s (Memᴰ.append_right before (here refl)))

@@ -4,12 +4,11 @@ use mathlib.Core.Bool.{true, false, not}
 use mathlib.Core.List.{List, [], ◌∷◌, ◌++◌, append_assoc}
 use Prim.Native.Nat.{ℕ, ◌≤◌, ◌<◌}
 use borrow.Author.Tests.{not-false, leb-false, ltb-false, lt-leb}
+use Rattle.std.specs.Prelude.{Result, Ok, Err}
 use Rattle.lemmas.specs.Lists.{Ascending, ascending}
 use Rattle.lemmas.proofs.Ascending.{test_ascending}
 use Rattle.nodes.specs.Sets.{no_node}
 use Rattle.waits.specs.declared.numbers.Refusal.{Refusal}
-use Rattle.waits.specs.declared.numbers.Checked.{Checked}
-use Rattle.waits.specs.declared.numbers.Checked.TheVariants.{Accepted, Refused}
 use Rattle.waits.specs.Numbers.{Line, line, graph_lines, first_said, check_of}
 use Rattle.waits.proofs.Next.{Next, next, refused_before, refused_here, not_refused, next_accepted}
 use Rattle.deadlock.specs.Refusals.{strange_entry, not_ascending, small_room, asked_lines, check_node_of, check_list_of, check_room_of}
@@ -23,7 +22,7 @@ asked_next n rows i more l =
     ap first_said (sym (append_assoc (graph_lines n rows) (line 9 0 (no_node n i) ∷ more) (l ∷ []))) ∙ next (asked_lines n rows i more) l
 
 -- what is answered of a list whose order isn't asked about
-abbrev entries_of : ℕ → List ℕ → ℕ → List ℕ → Checked
+abbrev entries_of : ℕ → List ℕ → ℕ → List ℕ → Result Unit Refusal
 entries_of n rows i l = first_said (asked_lines n rows i (line 14 0 (strange_entry n l) ∷ []))
 
 entries_next : (n : ℕ) (rows : List ℕ) (i : ℕ) (l : List ℕ) → Next (check_node_of n rows i) (line 14 0 (strange_entry n l)) (entries_of n rows i l)
@@ -39,54 +38,54 @@ unfolding check_node_of check_room_of
 room_next n rows i room = asked_next n rows i [] (line 15 0 (small_room n room))
 
 -- ---- what is answered then
-pub node_refused : (n : ℕ) (rows : List ℕ) (i : ℕ) {r : Refusal} → check_of n rows ≡ Refused r → Refused r ≡ check_node_of n rows i
+pub node_refused : (n : ℕ) (rows : List ℕ) (i : ℕ) {r : Refusal} → check_of n rows ≡ Err r → Err r ≡ check_node_of n rows i
 node_refused n rows i = refused_before (line 9 0 (no_node n i)) (node_next n rows i)
 
-pub room_refused : (n : ℕ) (rows : List ℕ) (i room : ℕ) {r : Refusal} → check_node_of n rows i ≡ Refused r → Refused r ≡ check_room_of n rows i room
+pub room_refused : (n : ℕ) (rows : List ℕ) (i room : ℕ) {r : Refusal} → check_node_of n rows i ≡ Err r → Err r ≡ check_room_of n rows i room
 room_refused n rows i room = refused_before (line 15 0 (small_room n room)) (room_next n rows i room)
 
-pub node_fine : (n : ℕ) (rows : List ℕ) (i : ℕ) → check_of n rows ≡ Accepted → i < n → check_node_of n rows i ≡ Accepted
+pub node_fine : (n : ℕ) (rows : List ℕ) (i : ℕ) → check_of n rows ≡ Ok tt → i < n → check_node_of n rows i ≡ Ok tt
 unfolding no_node
 node_fine n rows i e h = sym (not_refused (line 9 0 (no_node n i)) (node_next n rows i) e (lt-leb n i h))
 
 -- with a list: the node's refusal, then 14, then 18
 module _ (n : ℕ) (rows : List ℕ) (i : ℕ) (l : List ℕ) where
-  entries_refused : {r : Refusal} → Refused r ≡ entries_of n rows i l → Refused r ≡ check_list_of n rows i l
+  entries_refused : {r : Refusal} → Err r ≡ entries_of n rows i l → Err r ≡ check_list_of n rows i l
   entries_refused e = refused_before (line 18 0 (not_ascending l)) (list_next n rows i l) (sym e)
 
-  pub list_refused : {r : Refusal} → check_node_of n rows i ≡ Refused r → Refused r ≡ check_list_of n rows i l
+  pub list_refused : {r : Refusal} → check_node_of n rows i ≡ Err r → Err r ≡ check_list_of n rows i l
   list_refused e = entries_refused (refused_before (line 14 0 (strange_entry n l)) (entries_next n rows i l) e)
 
-  module _ (ok : check_node_of n rows i ≡ Accepted) where
-    pub list_strange : strange_entry n l ≡ true → Refused (line 14 0 (strange_entry n l)).gives ≡ check_list_of n rows i l
+  module _ (ok : check_node_of n rows i ≡ Ok tt) where
+    pub list_strange : strange_entry n l ≡ true → Err (line 14 0 (strange_entry n l)).gives ≡ check_list_of n rows i l
     list_strange h = entries_refused (refused_here (line 14 0 (strange_entry n l)) (entries_next n rows i l) ok h)
 
     module _ (known : strange_entry n l ≡ false) where
-      entries_fine : entries_of n rows i l ≡ Accepted
+      entries_fine : entries_of n rows i l ≡ Ok tt
       entries_fine = sym (not_refused (line 14 0 (strange_entry n l)) (entries_next n rows i l) ok known)
 
-      pub list_unordered : ascending l ≡ false → Refused (line 18 0 (not_ascending l)).gives ≡ check_list_of n rows i l
+      pub list_unordered : ascending l ≡ false → Err (line 18 0 (not_ascending l)).gives ≡ check_list_of n rows i l
       unfolding not_ascending
       list_unordered h = refused_here (line 18 0 (not_ascending l)) (list_next n rows i l) entries_fine (ap not h)
 
-      pub list_fine : ascending l ≡ true → check_list_of n rows i l ≡ Accepted
+      pub list_fine : ascending l ≡ true → check_list_of n rows i l ≡ Ok tt
       unfolding not_ascending
       list_fine h = sym (not_refused (line 18 0 (not_ascending l)) (list_next n rows i l) entries_fine (ap not h))
 
 -- ---- and back: what isn't refused
-pub node_accepted : (n : ℕ) (rows : List ℕ) (i : ℕ) → check_node_of n rows i ≡ Accepted → (check_of n rows ≡ Accepted) × (i < n)
+pub node_accepted : (n : ℕ) (rows : List ℕ) (i : ℕ) → check_node_of n rows i ≡ Ok tt → (check_of n rows ≡ Ok tt) × (i < n)
 unfolding no_node
 node_accepted n rows i e = let p = next_accepted (line 9 0 (no_node n i)) (node_next n rows i) e in (p.0, leb-false n i p.1)
 
-pub list_accepted : (n : ℕ) (rows : List ℕ) (i : ℕ) (l : List ℕ) → check_list_of n rows i l ≡ Accepted
-    → (check_node_of n rows i ≡ Accepted) × (strange_entry n l ≡ false) × Ascending l
+pub list_accepted : (n : ℕ) (rows : List ℕ) (i : ℕ) (l : List ℕ) → check_list_of n rows i l ≡ Ok tt
+    → (check_node_of n rows i ≡ Ok tt) × (strange_entry n l ≡ false) × Ascending l
 unfolding not_ascending
 list_accepted n rows i l e =
     let p = next_accepted (line 18 0 (not_ascending l)) (list_next n rows i l) e in
     let q = next_accepted (line 14 0 (strange_entry n l)) (entries_next n rows i l) p.0 in
     (q.0, q.1, test_ascending l (not-false _ p.1))
 
-pub room_accepted : (n : ℕ) (rows : List ℕ) (i room : ℕ) → check_room_of n rows i room ≡ Accepted → (check_node_of n rows i ≡ Accepted) × (n ≤ room)
+pub room_accepted : (n : ℕ) (rows : List ℕ) (i room : ℕ) → check_room_of n rows i room ≡ Ok tt → (check_node_of n rows i ≡ Ok tt) × (n ≤ room)
 unfolding small_room
 room_accepted n rows i room e =
     let p = next_accepted (line 15 0 (small_room n room)) (room_next n rows i room) e in

@@ -1,9 +1,9 @@
 -- When a question about a graph is refused: the graph's numbers, then 9, then 14 and 18 or 15, each with the line that the
 -- paper's table has for it. Assumes nothing.
-use Rattle.std.specs.Prelude.{Bool, not, List, [], ◌∷◌, ◌++◌, ℕ, ltb}
+use Rattle.std.specs.Prelude.{Bool, not, List, [], ◌∷◌, ◌++◌, ℕ, ltb, Result}
 use Rattle.lemmas.specs.Lists.{any_of, ascending}
 use Rattle.nodes.specs.Sets.{no_node}
-use Rattle.waits.specs.declared.numbers.Checked.{Checked}
+use Rattle.waits.specs.declared.numbers.Refusal.{Refusal}
 use Rattle.waits.specs.Numbers.{Line, line, graph_lines, first_said}
 
 -- 14: some entry of the list isn't the number of a node
@@ -30,11 +30,11 @@ abbrev pub room_lines : ℕ → List ℕ → ℕ → ℕ → List Line
 room_lines n rows i room = asked_lines n rows i (line 15 0 (small_room n room) ∷ [])
 
 -- what the check of a question about node i answers; of one that comes with a list; of one that comes with lent room
-unfoldable pub check_node_of : ℕ → List ℕ → ℕ → Checked
+unfoldable pub check_node_of : ℕ → List ℕ → ℕ → Result Unit Refusal
 check_node_of n rows i = first_said (asked_lines n rows i [])
 
-unfoldable pub check_list_of : ℕ → List ℕ → ℕ → List ℕ → Checked
+unfoldable pub check_list_of : ℕ → List ℕ → ℕ → List ℕ → Result Unit Refusal
 check_list_of n rows i l = first_said (list_lines n rows i l)
 
-unfoldable pub check_room_of : ℕ → List ℕ → ℕ → ℕ → Checked
+unfoldable pub check_room_of : ℕ → List ℕ → ℕ → ℕ → Result Unit Refusal
 check_room_of n rows i room = first_said (room_lines n rows i room)

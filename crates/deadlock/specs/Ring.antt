@@ -1,12 +1,12 @@
 -- The ring report: where a deadlocked claim stands. Assumes nothing.
-use Rattle.std.specs.Prelude.{◌≡◌, List, ℕ}
-use Rattle.waits.specs.declared.numbers.Checked.TheVariants.{Accepted, Refused}
+use Rattle.std.specs.Prelude.{◌≡◌, List, ℕ, Result, Ok, Err}
+use Rattle.waits.specs.declared.numbers.Refusal.{Refusal}
 use Rattle.waits.specs.Waits.{Waits}
 use Rattle.waits.specs.Deadlocked.{Deadlocked, Path}
 use Rattle.waits.specs.Deadlocked.Path.{edge, then}
 use Rattle.waits.specs.Rows.{waits_of}
 use Rattle.deadlock.specs.declared.ring.Report.{Report}
-use Rattle.deadlock.specs.declared.ring.Report.TheVariants.{InRing, BehindRing, NotDeadlocked, Refused as Report-as-Refused}
+use Rattle.deadlock.specs.declared.ring.Report.TheVariants.{InRing, BehindRing, NotDeadlocked}
 use Rattle.deadlock.specs.Refusals.{check_node_of}
 
 -- every node of a path, its ends included, has a property
@@ -23,8 +23,8 @@ abbrev pub OnRing : Waits → ℕ → Type 0
 OnRing w i = LeadsTo w i i
 
 -- Of node i: the refusal; that it is deadlocked and in the ring, or deadlocked and behind the ring; or not deadlocked.
-abbrev pub ReportSays : ℕ → List ℕ → ℕ → Report → Type 0
-ReportSays n rows i (Report-as-Refused r) = check_node_of n rows i ≡ Refused r
-ReportSays n rows i InRing = (check_node_of n rows i ≡ Accepted) × Deadlocked (waits_of n rows) i × OnRing (waits_of n rows) i
-ReportSays n rows i BehindRing = (check_node_of n rows i ≡ Accepted) × Deadlocked (waits_of n rows) i × (OnRing (waits_of n rows) i → ⊥)
-ReportSays n rows i NotDeadlocked = (check_node_of n rows i ≡ Accepted) × (Deadlocked (waits_of n rows) i → ⊥)
+abbrev pub ReportSays : ℕ → List ℕ → ℕ → Result Report Refusal → Type 0
+ReportSays n rows i (Err r) = check_node_of n rows i ≡ Err r
+ReportSays n rows i (Ok InRing) = (check_node_of n rows i ≡ Ok tt) × Deadlocked (waits_of n rows) i × OnRing (waits_of n rows) i
+ReportSays n rows i (Ok BehindRing) = (check_node_of n rows i ≡ Ok tt) × Deadlocked (waits_of n rows) i × (OnRing (waits_of n rows) i → ⊥)
+ReportSays n rows i (Ok NotDeadlocked) = (check_node_of n rows i ≡ Ok tt) × (Deadlocked (waits_of n rows) i → ⊥)

@@ -2,7 +2,7 @@
 ghost use Rattle.std.specs.Prelude.{◌≡◌, false, ◌++◌, ◌≤◌, ◌<◌, length, drop};
 ghost use Rattle.nodes.specs.Sets.{Inside, below, members, size, set_of};
 ghost use Rattle.nodes.specs.Words.{num, places};
-ghost use Rattle.waits.specs.Rows.{waits_of, Shaped};
+ghost use Rattle.waits.specs.Graph.{graph_of};
 ghost use Rattle.deadlock.specs.Sweeps.{knot as knot_of};
 ghost use Rattle.deadlock.specs.Refusals.{strange_entry};
 ghost use Rattle.deadlock.specs.Evidence.{WrittenSays, first_satisfied, judgement, judged_of};
@@ -11,16 +11,10 @@ use crate::reach::ahead;
 use crate::reduce::stuck;
 use crate::refusals::{check_list, check_room, named};
 use nodes::{Node, Set};
-use waits::{Checked, Refusal, holds, row_at};
-
-#[derive(Clone, Copy)]
-pub enum Written {
-    Bytes(usize),
-    Refused(Refusal),
-}
+use waits::{Graph, Refusal, holds};
 
 // What is said of a list that is offered for a claim.
-#[derive(Clone, Copy)]
+#[derive(Clone, Copy, Debug, PartialEq, Eq)]
 pub enum Judged {
     // The claim is in the list, and no member's condition holds when every node outside the list grants.
     Passes,
@@ -28,19 +22,18 @@ pub enum Judged {
     ClaimMissing,
     // The claim is in the list, and this is the first member, in the list's order, whose condition so holds.
     MemberSatisfied(Node),
-    Refused(Refusal),
 }
 
 // The evidence for i as a set: the stuck nodes reachable from i, and nobody if i isn't stuck.
-fn knot(nodes: usize, rows: &[u64], i: Node) -> Set
-    requires { Shaped nodes rows.now × (i.0 < nodes) }
-    ensures { num result ≡ knot_of (waits_of nodes rows.now) i.0 }
+fn knot(graph: Graph, i: Node) -> Set
+    requires { i.0 < graph.nodes }
+    ensures { num result ≡ knot_of (graph_of graph.entry) i.0 }
 {
-    let stuck = stuck(nodes, rows);
+    let stuck = stuck(graph);
     if !stuck.has(i) {
         return Set::empty();
     }
-    stuck.meet(ahead(nodes, rows, i).with(i))
+    stuck.meet(ahead(graph, i).with(i))
 }
 
 // Writes the members of a set, ascending, one byte each; the bytes after them stay.
@@ -49,27 +42,26 @@ fn write(s: Set, nodes: usize, room: &mut [u8]) -> usize
     ensures { (result ≡ size (num s)) × (room.new ≡ members (num s) ++ drop (size (num s)) room.old) }
 {
     let mut at: usize = 0;
-    let mut k: usize = 0;
-    while k < nodes {
+    for k in 0..nodes {
         if s.has(Node(k)) {
             room[at] = k as u8;
             at += 1;
         }
-        k += 1;
     }
     at
 }
 
 // Writes the evidence for i, and says how many bytes it has. The room must have a byte for every node of the graph.
-pub fn write_evidence(nodes: usize, rows: &[u64], i: Node, room: &mut [u8]) -> Written
+pub fn write_evidence(
+    nodes: usize,
+    rows: &[u64],
+    i: Node,
+    room: &mut [u8],
+) -> Result<usize, Refusal>
     ensures { WrittenSays nodes rows.now i.0 room.old room.new result }
 {
-    let checked = check_room(nodes, rows, i, room.len());
-    if let Checked::Refused(r) = checked {
-        return Written::Refused(r);
-    }
-    let evidence = knot(nodes, rows, i);
-    Written::Bytes(write(evidence, nodes, room))
+    let graph = check_room(nodes, rows, i, room.len())?;
+    Ok(write(knot(graph, i), nodes, room))
 }
 
 // The set of the nodes that a list names.
@@ -78,52 +70,44 @@ fn set_of(nodes: usize, list: &[u8]) -> Set
     ensures { num result ≡ set_of list.now }
 {
     let mut s = Set::empty();
-    let mut at: usize = 0;
-    while at < list.len() {
-        s = s.with(named(list[at]));
-        at += 1;
+    for &entry in list {
+        s = s.with(named(entry));
     }
     s
 }
 
 // The first member, in the list's order, whose condition holds when the nodes of g grant; with none the list passes.
-fn first_satisfied(nodes: usize, rows: &[u64], list: &[u8], g: Set) -> Judged
-    requires { Shaped nodes rows.now × (strange_entry nodes list.now ≡ false) }
-    ensures { result ≡ first_satisfied (waits_of nodes rows.now) (num g) list.now }
+fn first_satisfied(graph: Graph, list: &[u8], g: Set) -> Judged
+    requires { strange_entry graph.nodes list.now ≡ false }
+    ensures { result ≡ first_satisfied (graph_of graph.entry) (num g) list.now }
 {
-    let mut at: usize = 0;
-    while at < list.len() {
+    for at in 0..list.len() {
         let member = named(list[at]);
-        let row = row_at(rows, member);
-        if holds(row, g) {
+        if holds(graph.row(member), g) {
             return Judged::MemberSatisfied(member);
         }
-        at += 1;
     }
     Judged::Passes
 }
 
 // What is said of a list of nodes that is offered for i: whether i is in it comes before what its members need.
-fn judge(nodes: usize, rows: &[u64], i: Node, list: &[u8]) -> Judged
-    requires { Shaped nodes rows.now × (strange_entry nodes list.now ≡ false) }
-    ensures { result ≡ judgement (waits_of nodes rows.now) i.0 list.now }
+fn judge(graph: Graph, i: Node, list: &[u8]) -> Judged
+    requires { strange_entry graph.nodes list.now ≡ false }
+    ensures { result ≡ judgement (graph_of graph.entry) i.0 list.now }
 {
-    let all = Set::below(nodes);
-    let members = set_of(nodes, list);
+    let all = Set::below(graph.nodes);
+    let members = set_of(graph.nodes, list);
     let outside = all.minus(members);
     if !members.has(i) {
         return Judged::ClaimMissing;
     }
-    first_satisfied(nodes, rows, list, outside)
+    first_satisfied(graph, list, outside)
 }
 
 // Whether a list passes as evidence for i, whoever wrote it; and if it doesn't, why.
-pub fn check_evidence(nodes: usize, rows: &[u64], i: Node, list: &[u8]) -> Judged
+pub fn check_evidence(nodes: usize, rows: &[u64], i: Node, list: &[u8]) -> Result<Judged, Refusal>
     ensures { result ≡ judged_of nodes rows.now i.0 list.now }
 {
-    let checked = check_list(nodes, rows, i, list);
-    if let Checked::Refused(r) = checked {
-        return Judged::Refused(r);
-    }
-    judge(nodes, rows, i, list)
+    let graph = check_list(nodes, rows, i, list)?;
+    Ok(judge(graph, i, list))
 }

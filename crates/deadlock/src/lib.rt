@@ -7,9 +7,10 @@ mod reach;
 mod reduce;
 mod refusals;
 mod ring;
+mod visits;
 mod waiters;
 
-pub use claims::{Claim, Found, all_deadlocked, deadlocked};
-pub use evidence::{Judged, Written, check_evidence, write_evidence};
+pub use claims::{all_deadlocked, deadlocked};
+pub use evidence::{Judged, check_evidence, write_evidence};
 pub use ring::{Report, ring_report};
 pub use waiters::waiting_on;

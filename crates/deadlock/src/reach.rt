@@ -1,54 +1,47 @@
 // Paths: which nodes they lead to.
 ghost use Rattle.std.specs.Prelude.{◌≡◌, ◌<◌};
 ghost use Rattle.nodes.specs.Words.{num};
-ghost use Rattle.waits.specs.Rows.{waits_of, Shaped};
+ghost use Rattle.waits.specs.Graph.{graph_of};
 ghost use Rattle.deadlock.specs.Sweeps.{reaching, ahead_within};
-ghost use Rattle.deadlock.specs.Sweeps.{sweep as sweep_of, ahead as ahead_of};
+ghost use Rattle.deadlock.specs.Sweeps.{ahead as ahead_of};
 
+use crate::visits::{Visit, settle};
 use nodes::{Node, Set};
-use waits::{out_of, row_at};
+use waits::{Graph, out_of};
 
-// Every node visited in turn: if it is one of the reached ones, those that it waits on, within a set, join them.
-fn reach_more(nodes: usize, rows: &[u64], within: Set, g: Set) -> Set
-    requires { Shaped nodes rows.now }
-    ensures { num result ≡ sweep_of (reaching (waits_of nodes rows.now) (num within)) nodes (num g) }
-{
-    let mut reached = g;
-    let mut k: usize = 0;
-    while k < nodes {
-        let row = row_at(rows, Node(k));
-        if reached.has(Node(k)) {
-            reached = reached.union(within.meet(out_of(row)));
-        }
-        k += 1;
-    }
-    reached
+// If a node that is visited is one of the reached ones, those that it waits on, within a set, join them.
+#[derive(Clone, Copy)]
+struct Reaching {
+    within: Set,
 }
 
-// The nodes to which a path of one or more edges leads from i, all of whose nodes after i are in a set. A sweep that
-// reaches nobody new is the last.
-pub fn ahead_within(nodes: usize, rows: &[u64], within: Set, i: Node) -> Set
-    requires { Shaped nodes rows.now × (i.0 < nodes) }
-    ensures { num result ≡ ahead_within (waits_of nodes rows.now) (num within) i.0 }
-{
-    let row = row_at(rows, i);
-    let mut g = within.meet(out_of(row));
-    let mut t: usize = 0;
-    while t < nodes {
-        let next = reach_more(nodes, rows, within, g);
-        if next.minus(g).is_empty() {
-            return g;
+impl Visit for Reaching {
+    ghost by = { λ s w. reaching w (num s.within) };
+
+    fn visit(self, graph: Graph, k: Node, g: Set) -> Set {
+        if g.has(k) {
+            return g.union(self.within.meet(out_of(graph.row(k))));
         }
-        g = next;
-        t += 1;
+        g
     }
-    g
+}
+
+// The nodes to which a path of one or more edges leads from i, all of whose nodes after i are in a set.
+pub fn ahead_within(graph: Graph, within: Set, i: Node) -> Set
+    requires { i.0 < graph.nodes }
+    ensures { num result ≡ ahead_within (graph_of graph.entry) (num within) i.0 }
+{
+    settle(
+        graph,
+        Reaching { within },
+        within.meet(out_of(graph.row(i))),
+    )
 }
 
 // The nodes to which any path of one or more edges leads from i.
-pub fn ahead(nodes: usize, rows: &[u64], i: Node) -> Set
-    requires { Shaped nodes rows.now × (i.0 < nodes) }
-    ensures { num result ≡ ahead_of (waits_of nodes rows.now) i.0 }
+pub fn ahead(graph: Graph, i: Node) -> Set
+    requires { i.0 < graph.nodes }
+    ensures { num result ≡ ahead_of (graph_of graph.entry) i.0 }
 {
-    ahead_within(nodes, rows, Set::below(nodes), i)
+    ahead_within(graph, Set::below(graph.nodes), i)
 }

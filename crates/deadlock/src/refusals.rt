@@ -1,10 +1,11 @@
 // When a question about a graph is refused: the graph's numbers, then 9, then 14 and 18 or 15.
 ghost use Rattle.std.specs.Prelude.{◌≡◌};
 ghost use Rattle.lemmas.specs.Lists.{ascending};
+ghost use Rattle.waits.specs.Graph.{GraphSays};
 ghost use Rattle.deadlock.specs.Refusals.{strange_entry, check_node_of, check_list_of, check_room_of};
 
 use nodes::Node;
-use waits::{Checked, check, refused};
+use waits::{Graph, Refusal};
 
 // The node that an entry of a list names.
 pub fn named(entry: u8) -> Node
@@ -13,75 +14,67 @@ pub fn named(entry: u8) -> Node
     Node(entry as usize)
 }
 
-// A question about node i: the graph, then 9.
-pub fn check_node(nodes: usize, rows: &[u64], i: Node) -> Checked
-    ensures { result ≡ check_node_of nodes rows.now i.0 }
+// The refusal with a number that is not of a row.
+fn of_no_row(number: u64) -> Refusal
+    ensures { result ≡ record { number = number; row = record { 0 = 0 } } }
 {
-    let graph = check(nodes, rows);
-    if let Checked::Refused(r) = graph {
-        return Checked::Refused(r);
+    Refusal {
+        number,
+        row: Node(0),
     }
+}
+
+// A question about node i: the graph, then 9.
+pub fn check_node(nodes: usize, rows: &[u64], i: Node) -> Result<Graph, Refusal>
+    ensures { GraphSays (check_node_of nodes rows.now i.0) nodes rows.now result }
+{
+    let graph = Graph::checked(nodes, rows)?;
     if nodes <= i.0 {
-        return refused(9, Node(0));
+        return Err(of_no_row(9));
     }
-    Checked::Accepted
+    Ok(graph)
 }
 
 // Number 14.
 fn strange_entry(nodes: usize, list: &[u8]) -> bool
     ensures { result ≡ strange_entry nodes list.now }
 {
-    let mut at: usize = 0;
-    while at < list.len() {
-        if nodes <= named(list[at]).0 {
-            return true;
-        }
-        at += 1;
-    }
-    false
+    list.iter().any(|&entry| nodes <= named(entry).0)
 }
 
 // Whether each entry of a list is below the next; number 18 if not.
 fn ascends(list: &[u8]) -> bool
     ensures { result ≡ ascending list.now }
 {
-    let mut at: usize = 1;
-    while at < list.len() {
-        if list[at] <= list[at - 1] {
-            return false;
-        }
-        at += 1;
-    }
-    true
+    list.is_sorted_by(|a, b| a < b)
 }
 
 // A question about a list for node i: the graph, 9, 14, then 18.
-pub fn check_list(nodes: usize, rows: &[u64], i: Node, list: &[u8]) -> Checked
-    ensures { result ≡ check_list_of nodes rows.now i.0 list.now }
+pub fn check_list<'a>(
+    nodes: usize,
+    rows: &'a [u64],
+    i: Node,
+    list: &[u8],
+) -> Result<Graph<'a>, Refusal>
+    ensures { GraphSays (check_list_of nodes rows.now i.0 list.now) nodes rows.now result }
 {
-    let node = check_node(nodes, rows, i);
-    if let Checked::Refused(r) = node {
-        return Checked::Refused(r);
-    }
+    let graph = check_node(nodes, rows, i)?;
     if strange_entry(nodes, list) {
-        return refused(14, Node(0));
+        return Err(of_no_row(14));
     }
     if !ascends(list) {
-        return refused(18, Node(0));
+        return Err(of_no_row(18));
     }
-    Checked::Accepted
+    Ok(graph)
 }
 
 // A question about node i with lent room: the graph, 9, then 15.
-pub fn check_room(nodes: usize, rows: &[u64], i: Node, room: usize) -> Checked
-    ensures { result ≡ check_room_of nodes rows.now i.0 room }
+pub fn check_room(nodes: usize, rows: &[u64], i: Node, room: usize) -> Result<Graph, Refusal>
+    ensures { GraphSays (check_room_of nodes rows.now i.0 room) nodes rows.now result }
 {
-    let node = check_node(nodes, rows, i);
-    if let Checked::Refused(r) = node {
-        return Checked::Refused(r);
-    }
+    let graph = check_node(nodes, rows, i)?;
     if room < nodes {
-        return refused(15, Node(0));
+        return Err(of_no_row(15));
     }
-    Checked::Accepted
+    Ok(graph)
 }

@@ -5,30 +5,26 @@ use crate::reach::ahead_within;
 use crate::reduce::stuck;
 use crate::refusals::check_node;
 use nodes::Node;
-use waits::{Checked, Refusal};
+use waits::Refusal;
 
-#[derive(Clone, Copy)]
+#[derive(Clone, Copy, Debug, PartialEq, Eq)]
 pub enum Report {
     InRing,
     BehindRing,
     NotDeadlocked,
-    Refused(Refusal),
 }
 
 // Whether node i, if it is deadlocked, is in the ring or behind it.
-pub fn ring_report(nodes: usize, rows: &[u64], i: Node) -> Report
+pub fn ring_report(nodes: usize, rows: &[u64], i: Node) -> Result<Report, Refusal>
     ensures { ReportSays nodes rows.now i.0 result }
 {
-    let checked = check_node(nodes, rows, i);
-    if let Checked::Refused(r) = checked {
-        return Report::Refused(r);
-    }
-    let stuck = stuck(nodes, rows);
+    let graph = check_node(nodes, rows, i)?;
+    let stuck = stuck(graph);
     if !stuck.has(i) {
-        return Report::NotDeadlocked;
+        return Ok(Report::NotDeadlocked);
     }
-    if ahead_within(nodes, rows, stuck, i).has(i) {
-        return Report::InRing;
+    if ahead_within(graph, stuck, i).has(i) {
+        return Ok(Report::InRing);
     }
-    Report::BehindRing
+    Ok(Report::BehindRing)
 }

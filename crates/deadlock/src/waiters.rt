@@ -1,18 +1,14 @@
 // Who waits on a node: its IN, which its controller is to be told.
 ghost use Rattle.deadlock.specs.Waiters.{InSays};
 
-use crate::claims::Found;
 use crate::refusals::check_node;
-use nodes::Node;
-use waits::{Checked, in_of};
+use nodes::{Node, Set};
+use waits::Refusal;
 
 // IN of node i.
-pub fn waiting_on(nodes: usize, rows: &[u64], i: Node) -> Found
+pub fn waiting_on(nodes: usize, rows: &[u64], i: Node) -> Result<Set, Refusal>
     ensures { InSays nodes rows.now i.0 result }
 {
-    let checked = check_node(nodes, rows, i);
-    if let Checked::Refused(r) = checked {
-        return Found::Refused(r);
-    }
-    Found::Nodes(in_of(nodes, rows, i))
+    let graph = check_node(nodes, rows, i)?;
+    Ok(graph.in_of(i))
 }

@@ -4,3 +4,4 @@ pub mod Deadlocked
 pub mod Rows
 pub mod Numbers
 pub mod Mornings
+pub mod Graph

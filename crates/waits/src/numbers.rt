@@ -3,8 +3,10 @@ ghost use Rattle.std.specs.Prelude.{◌≡◌, ◌||◌, ◌≤◌, Err};
 ghost use Rattle.nodes.specs.Words.{num, places};
 ghost use Rattle.waits.specs.Rows.{sets_of, lies_in};
 ghost use Rattle.waits.specs.Numbers.{strange_count, wrong_count, wrong_threshold, extra_set, nested, bad_sets, check_row_of, check_of};
+ghost use Rattle.waits.specs.Graph.{GraphSays};
 
-use crate::rows::{ROW, Row, edges, later, lies_in, out_of, row_at};
+use crate::graph::Graph;
+use crate::rows::{ROW, Row, later, lies_in, out_of};
 use nodes::{Node, PLACES, Set};
 
 // How many edges a graph may have.
@@ -120,12 +122,23 @@ pub fn check(nodes: usize, rows: &[u64]) -> Result<(), Refusal>
     if wrong_count(nodes, rows.len()) {
         return refused(1, Node(0));
     }
+    let graph = Graph { nodes, rows };
     for k in 0..nodes {
-        let row = row_at(rows, Node(k));
+        let row = graph.row(Node(k));
         check_row(nodes, Node(k), row)?;
     }
-    if EDGES < edges(nodes, rows) {
+    if EDGES < graph.edges() {
         return refused(8, Node(0));
     }
     Ok(())
+}
+
+impl<'a> Graph<'a> {
+    // The graph, or the first number that it gets.
+    pub fn checked(nodes: usize, rows: &'a [u64]) -> Result<Graph<'a>, Refusal>
+        ensures { GraphSays (check_of nodes rows.now) nodes rows.now result }
+    {
+        check(nodes, rows)?;
+        Ok(Graph { nodes, rows })
+    }
 }

@@ -3,9 +3,7 @@ ghost use Rattle.std.specs.Prelude.{◌≡◌, ◌+◌, ◌*◌, ◌≤◌, leng
 ghost use Rattle.std.proofs.lemmas.List.Edits.{sets};
 ghost use Rattle.lemmas.specs.Lists.{any_of};
 ghost use Rattle.nodes.specs.Words.{num};
-ghost use Rattle.waits.specs.Waits.{in_of};
-ghost use Rattle.waits.specs.Waits.{edges as waits_edges};
-ghost use Rattle.waits.specs.Rows.{row_size, row_at, row_numbers, sets_of, later_of, out_of, lies_in, holds_of, waits_of, Shaped};
+ghost use Rattle.waits.specs.Rows.{row_size, row_at, row_numbers, sets_of, later_of, out_of, lies_in, holds_of};
 
 use nodes::{Node, Set};
 
@@ -97,32 +95,4 @@ pub fn holds(row: Row, g: Set) -> bool
         2 => some_lies_in(row, g),
         _ => false,
     }
-}
-
-// IN: every node that has j in OUT.
-pub fn in_of(nodes: usize, rows: &[u64], j: Node) -> Set
-    requires { Shaped nodes rows.now }
-    ensures { num result ≡ in_of (waits_of nodes rows.now) j.0 }
-{
-    let mut found = Set::empty();
-    for i in 0..nodes {
-        let row = row_at(rows, Node(i));
-        if out_of(row).has(j) {
-            found = found.with(Node(i));
-        }
-    }
-    found
-}
-
-// How many edges there are: members of OUT.
-pub fn edges(nodes: usize, rows: &[u64]) -> u64
-    requires { Shaped nodes rows.now }
-    ensures { result ≡ waits_edges (waits_of nodes rows.now) }
-{
-    let mut count: u64 = 0;
-    for k in 0..nodes {
-        let row = row_at(rows, Node(k));
-        count += out_of(row).size();
-    }
-    count
 }

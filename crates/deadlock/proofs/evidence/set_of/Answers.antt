@@ -6,20 +6,14 @@ use Rattle.nodes.specs.Sets.{set_of}
 use Rattle.deadlock.proofs.Cases.{entry_node, taken_one, none_taken}
 use Rattle.deadlock.proofs.evidence.set_of.Goals as goal
 
-pub loop-at-init : goal.loop-at-init
-loop-at-init c = c.empty-s.ensures ∙ none_taken
-
-pub bounds-list-at : goal.bounds-list-at
-bounds-list-at c = omega arith
+pub loop-entry-init : goal.loop-entry-init
+loop-entry-init c = c.empty-s.ensures ∙ none_taken
 
 pub with-s-requires : goal.with-s-requires
-with-s-requires c = omega (arith, entry_node _ _ _ c.loop-at-test.true c.requires.1, c.named.ensures)
+with-s-requires c = omega (arith, entry_node _ _ _ c.loop-entry-test.true c.requires.1, c.named.ensures)
 
-pub loop-at-smaller : goal.loop-at-smaller
-loop-at-smaller c = omega arith
-
-pub loop-at-preserved : goal.loop-at-preserved
-loop-at-preserved c = taken_one _ _ _ c.loop-at-test.true c.loop-at.invariant c.named.ensures c.with-s.ensures
+pub loop-entry-preserved : goal.loop-entry-preserved
+loop-entry-preserved c = taken_one _ _ _ c.loop-entry-test.true c.loop-entry.invariant c.named.ensures c.with-s.ensures
 
 pub returns : goal.returns
-returns c = c.loop-at.invariant ∙ ap set_of (take_all _ _ c.loop-at-test.false)
+returns c = c.loop-entry.invariant ∙ ap set_of (take_all _ _ c.loop-entry-test.false)

@@ -1,16 +1,13 @@
 -- `write_evidence` meets its contract. Assumes nothing.
-use mathlib.Core.Path.{refl, sym, ◌∙◌}
+use native.Mathlib.Omega.{arith}
 use Rattle.deadlock.proofs.Answers.{room_shaped, room_write, room_written}
 use Rattle.deadlock.proofs.evidence.write_evidence.Goals as goal
 
-pub returns-in-Refused : goal.returns-in-Refused
-returns-in-Refused c = (sym c.check_room-checked.ensures ∙ c.in-Refused.is, refl)
-
-pub knot-evidence-requires : goal.knot-evidence-requires
-knot-evidence-requires c = room_shaped _ _ _ _ (sym c.check_room-checked.ensures ∙ c.in_default.is)
+pub knot-requires : goal.knot-requires
+knot-requires c = let e = c.in_ok-graph.ensures in omega (arith, e.1, (room_shaped _ _ _ _ e.0).1)
 
 pub write-requires : goal.write-requires
-write-requires c = room_write _ _ _ c.args.room.now _ (sym c.check_room-checked.ensures ∙ c.in_default.is) c.knot-evidence.ensures
+write-requires c = let e = c.in_ok-graph.ensures in room_write _ _ _ c.args.room.now _ e.0 (rw (e.1, e.2) at c.knot.ensures)
 
 pub returns : goal.returns
-returns c = room_written _ _ _ _ _ _ _ (sym c.check_room-checked.ensures ∙ c.in_default.is) c.knot-evidence.ensures c.write.ensures
+returns c = let e = c.in_ok-graph.ensures in room_written _ _ _ _ _ _ _ e.0 (rw (e.1, e.2) at c.knot.ensures) c.write.ensures

@@ -6,4 +6,4 @@ use Rattle.deadlock.proofs.reduce.stuck.Goals as goal
 
 pub returns : goal.returns
 unfolding stuck_of
-returns c = c.minus.ensures ∙ ap₂ minus c.below-all.ensures c.freed.ensures
+returns c = c.minus.ensures ∙ ap₂ minus c.below.ensures c.freed.ensures

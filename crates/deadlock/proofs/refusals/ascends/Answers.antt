@@ -1,20 +1,9 @@
--- `ascends` meets its contract. The loop's invariant: the answer is that of the entries from the one before on. Assumes nothing.
-use mathlib.Core.Path.{refl}
-use native.Mathlib.Omega.{arith}
-use Rattle.lemmas.proofs.Ascending.{ascending_passed, ascending_broken, ascending_ended}
+-- `ascends` meets its contract. Assumes nothing.
+use lib.Dec.{ltb}
+use Rattle.std.proofs.Common.{rules, tests}
+use Rattle.std.proofs.lemmas.List.Sorted.{answers_always}
+use Rattle.deadlock.proofs.Cases.{each_below_next}
 use Rattle.deadlock.proofs.refusals.ascends.Goals as goal
 
-pub loop-at-init : goal.loop-at-init
-loop-at-init c = (omega arith, refl)
-
-pub returns-then-list-at : goal.returns-then-list-at
-returns-then-list-at c = ascending_broken _ _ c.loop-at.invariant c.loop-at-test.true (omega (arith, c.if-list-at.true))
-
-pub loop-at-smaller : goal.loop-at-smaller
-loop-at-smaller c = omega arith
-
-pub loop-at-preserved : goal.loop-at-preserved
-loop-at-preserved c = ascending_passed _ _ c.loop-at.invariant c.loop-at-test.true (omega (arith, c.if-list-at.false))
-
 pub returns : goal.returns
-returns c = ascending_ended _ _ c.loop-at.invariant c.loop-at-test.false
+returns c = each_below_next _ _ (c.is_sorted_by.ensures.cases ltb (answers_always _ _ _ (λ f a r g k. search (rules, tests))))

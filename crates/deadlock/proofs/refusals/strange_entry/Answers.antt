@@ -1,27 +1,15 @@
--- `strange_entry` meets its contract. The loop's invariant: the answer is that of the entries from here on. Assumes nothing.
-use mathlib.Core.Path.{refl}
-use native.Mathlib.Omega.{arith}
-use Rattle.lemmas.proofs.Any.{any_passed, any_found, any_ended}
+-- `strange_entry` meets its contract. Assumes nothing.
+use mathlib.Core.Path.{◌∙◌}
+use Rattle.std.proofs.Common.{rules, tests}
+use Rattle.std.proofs.lemmas.Iterator.{YieldsList-from_slice}
+use Rattle.std.proofs.lemmas.Iterator.Search.{any_from_yields_List}
+use Rattle.nodes.specs.Sets.{no_node}
 use Rattle.deadlock.specs.Refusals.{strange_entry}
-use Rattle.deadlock.proofs.Cases.{entry_strange, entry_known}
+use Rattle.deadlock.proofs.Cases.{any_entry}
 use Rattle.deadlock.proofs.refusals.strange_entry.Goals as goal
 
-pub loop-at-init : goal.loop-at-init
-loop-at-init c = refl
-
-pub bounds-list-at : goal.bounds-list-at
-bounds-list-at c = omega arith
-
-pub returns-then-nodes-named : goal.returns-then-nodes-named
-unfolding strange_entry
-returns-then-nodes-named c = any_found _ _ _ c.loop-at.invariant c.loop-at-test.true (entry_strange _ _ c.named.ensures c.if-nodes-named.true)
-
-pub loop-at-smaller : goal.loop-at-smaller
-loop-at-smaller c = omega arith
-
-pub loop-at-preserved : goal.loop-at-preserved
-loop-at-preserved c = any_passed _ _ _ c.loop-at.invariant c.loop-at-test.true (entry_known _ _ c.named.ensures c.if-nodes-named.false)
-
 pub returns : goal.returns
-unfolding strange_entry
-returns c = any_ended _ _ _ c.loop-at.invariant c.loop-at-test.false
+unfolding strange_entry no_node
+returns c =
+    any_from_yields_List (no_node c.args.nodes) _ _ _ c.any.ensures.ran
+    (YieldsList-from_slice c.args.list.now (cc)) (λ x b q k. search (rules, tests)) ∙ any_entry (no_node c.args.nodes) c.args.list.now
