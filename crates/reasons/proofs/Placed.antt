@@ -16,6 +16,7 @@ use Rattle.waits.proofs.Table.{refused_not_accepted}
 use Rattle.format.specs.Files.{Meant, meant_by, Said, judged, said_of, read_of}
 use Rattle.format.specs.Files.Meant.{Broken, Rows}
 use Rattle.format.specs.Files.Said.{Line as Said-as-Line, Refused, Graph}
+use Rattle.waits.specs.declared.refusals.Reason.TheVariants.{WrongCount, ManyEdges}
 
 -- each line of the table gives such a row
 abbrev AllPlaced : List Line → Type 0
@@ -41,10 +42,10 @@ unfolding check_of
 check_placed n rows r e = go (wrong_count n (length rows)) refl e
   where
     go : (b : Bool) → wrong_count n (length rows) ≡ b
-        → cond b (Checked-as-Refused (line 1 0 true).gives) (first_said (rows_lines n rows 0 n ++ line 8 0 (many_edges n rows) ∷ [])) ≡ Checked-as-Refused r → r.row.0 < places
-    go true w e = let same : (line 1 0 true).gives ≡ r = cc in omega (arith, ap (λ (x : Refusal). x.row.0) same)
+        → cond b (Checked-as-Refused (line WrongCount 0 true).gives) (first_said (rows_lines n rows 0 n ++ line ManyEdges 0 (many_edges n rows) ∷ [])) ≡ Checked-as-Refused r → r.row.0 < places
+    go true w e = let same : (line WrongCount 0 true).gives ≡ r = cc in omega (arith, ap (λ (x : Refusal). x.row.0) same)
     go false w e =
-        let last : List Line = line 8 0 (many_edges n rows) ∷ [] in
+        let last : List Line = line ManyEdges 0 (many_edges n rows) ∷ [] in
         said_placed (rows_lines n rows 0 n ++ last) r (rows_placed n rows last 0 n (omega (arith, (right_count n (length rows) w).0)) (omega arith, tt)) e
 
 -- ---- what a file says

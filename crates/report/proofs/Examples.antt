@@ -6,7 +6,7 @@ use lib.ListN.{length}
 use borrow.Author.Tests.{lt-ltb}
 use Rattle.lemmas.proofs.Cases.{at_true}
 use Rattle.nodes.specs.Sets.{members}
-use Rattle.waits.specs.declared.numbers.Checked.TheVariants.{Accepted}
+use Rattle.std.specs.Prelude.{Ok}
 use Rattle.waits.specs.Rows.{waits_of}
 use Rattle.waits.specs.Numbers.{check_of}
 use Rattle.waits.specs.Mornings.{fourth_rows, fifth_rows}
@@ -43,7 +43,7 @@ unfolding open_format field refused_line input_of Answers
 too_long bytes h = subst (λ (i : Input). Answers i (word "refused 21 0\n")) (at_true (Says _) (lt-ltb longest (length bytes) h) refl) refl
 
 -- ---- graphs
-reduced : (n : ℕ) (rows : List ℕ) → check_of n rows ≡ Accepted → Stuck n rows (members (stuck (waits_of n rows)))
+reduced : (n : ℕ) (rows : List ℕ) → check_of n rows ≡ Ok tt → Stuck n rows (members (stuck (waits_of n rows)))
 reduced n rows ok = set_stuck n rows (stuck (waits_of n rows)) (found n rows ok (stuck (waits_of n rows)) refl)
 
 -- the paper's case 4: each waits on the other

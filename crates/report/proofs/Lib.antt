@@ -1,5 +1,4 @@
 -- What answers a file, and how long that is.
-pub mod Listing
 pub mod Settle
 pub mod Unique
 pub mod Small

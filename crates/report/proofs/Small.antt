@@ -7,9 +7,9 @@ use native.Mathlib.Omega.{arith}
 use lib.ListN.{length}
 use Rattle.lemmas.proofs.Cases.{both_branches}
 use Rattle.nodes.specs.Words.{places}
+use Rattle.std.specs.Prelude.{Result, Ok, Err}
 use Rattle.waits.specs.declared.rows.Row.{Row}
-use Rattle.waits.specs.declared.numbers.Checked.{Checked}
-use Rattle.waits.specs.declared.numbers.Checked.TheVariants.{Accepted, Refused as Checked-as-Refused}
+use Rattle.waits.specs.declared.refusals.Refusal.{Refusal}
 use Rattle.waits.specs.Rows.{flat}
 use Rattle.waits.specs.Numbers.{check_of}
 use Rattle.waits.proofs.Table.{accepted_shaped}
@@ -55,12 +55,12 @@ under_within m (l ∷ ls) h = both_branches (Within m) (is_header l) {x = rows_f
 -- ---- what a file says
 abbrev pub SmallSaid : Said → Type 0
 SmallSaid (Line k) = k < 100000
-SmallSaid (Refused r) = (r.number < 100000) × (r.row.0 < 100000)
+SmallSaid (Refused r) = (reason_number r.reason < 100000) × (r.row.0 < 100000)
 SmallSaid (Graph n rows) = n ≤ places
 
-judged_small : (n : ℕ) (rows : List ℕ) (c : Checked) → check_of n rows ≡ c → SmallSaid (judged n rows c)
-judged_small n rows (Checked-as-Refused r) e = let s = check_small n rows r e in (omega (arith, s.1), omega (arith, s.2))
-judged_small n rows Accepted e = (accepted_shaped n rows e).0
+judged_small : (n : ℕ) (rows : List ℕ) (c : Result Unit Refusal) → check_of n rows ≡ c → SmallSaid (judged n rows c)
+judged_small n rows (Err r) e = let s = check_small n rows r e in (omega (arith, s.1), omega (arith, s.2))
+judged_small n rows (Ok tt) e = (accepted_shaped n rows e).0
 
 said_small : (m : Meant) → Within 99999 m → SmallSaid (said_of m)
 said_small (Broken k) w = omega arith

@@ -1,5 +1,5 @@
 -- What a file of waits is answered with: the deadlocked nodes of the graph that it says, or the refusal. Assumes nothing.
-use Rattle.std.specs.Prelude.{◌≡◌, cond, ◌↔◌, ℕ, ◌*◌, ◌<◌, ltb, length}
+use Rattle.std.specs.Prelude.{◌≡◌, cond, ◌↔◌, ℕ, ◌*◌, ◌<◌, ltb, length, Err}
 use mathlib.Core.List.{List, [], ◌∷◌, ◌++◌, Memᴰ}
 use Rattle.lemmas.specs.Lists.{Ascending}
 use Rattle.nodes.specs.Words.{places}
@@ -7,12 +7,13 @@ use Rattle.waits.specs.Deadlocked.{Deadlocked}
 use Rattle.waits.specs.Rows.{waits_of}
 use Rattle.waits.specs.Numbers.{check_of}
 use Rattle.text.specs.Words.{word, decimal}
-use Rattle.text.specs.Text.{text, write}
+use Rattle.text.specs.declared.Text.{Text as Lent}
+use Rattle.text.specs.Text.{text, write, Wrote}
 use Rattle.lines.specs.Lines.{refused_line}
 use Rattle.format.specs.Files.{Said, judged, read_of}
 use Rattle.format.specs.Files.Said.{Line, Refused, Graph}
-use Rattle.reader.specs.declared.files.Outcome.{Outcome}
-use Rattle.reader.specs.declared.files.Outcome.TheVariants.{Line as Outcome-as-Line, Refused as Outcome-as-Refused}
+use Rattle.reader.specs.declared.files.Wrong.{Wrong}
+use Rattle.reader.specs.declared.files.Wrong.TheVariants.{Line as Wrong-as-Line, Refused as Wrong-as-Refused}
 use Rattle.reader.specs.Answers.{told_as}
 
 -- a longer file is not looked into
@@ -37,8 +38,8 @@ node_lines [] = []
 node_lines (k ∷ l) = decimal k ++ word "\n" ++ node_lines l
 
 -- a refusal gives its number and its line or row
-abbrev pub refusal_line : Outcome → List ℕ
-refusal_line o = refused_line (told_as o).number (told_as o).place
+abbrev pub refusal_line : Wrong → List ℕ
+refusal_line w = refused_line (told_as (Err w)).number (told_as (Err w)).place
 
 -- 21 is of no line or row, and gives 0
 abbrev pub long_line : List ℕ
@@ -47,8 +48,8 @@ long_line = refused_line 21 0
 -- the text that answers an input
 unfoldable pub Answers : Input → List ℕ → Type 0
 Answers TooLong t = t ≡ long_line
-Answers (Says (Line line)) t = t ≡ refusal_line (Outcome-as-Line line)
-Answers (Says (Refused r)) t = t ≡ refusal_line (Outcome-as-Refused r)
+Answers (Says (Line line)) t = t ≡ refusal_line (Wrong-as-Line line)
+Answers (Says (Refused r)) t = t ≡ refusal_line (Wrong-as-Refused r)
 Answers (Says (Graph n rows)) t = (l : List ℕ) × Stuck n rows l × (t ≡ node_lines l)
 
 -- no answer is longer: three bytes for each of as many nodes as a set has places for; a refusal has 20 at most
@@ -64,3 +65,9 @@ pub record Answered (i : Input) (found left : List ℕ) (end : ℕ) : Type 0 whe
   pub answer : List ℕ
   pub answers : Answers i answer
   pub written : text left end ≡ write (text found 0) answer
+
+-- of the code's struct before and after: a text that answers an input is written
+pub record Gave (i : Input) (before after : Lent) : Type 0 where
+  pub answer : List ℕ
+  pub answers : Answers i answer
+  pub wrote : Wrote before after answer

@@ -4,14 +4,14 @@
 ghost use Rattle.std.specs.Prelude.{◌≡◌, ◌+◌, replicate};
 ghost use Rattle.nodes.specs.Sets.{members};
 ghost use Rattle.nodes.specs.Words.{num};
-ghost use Rattle.text.specs.Text.{text, write};
-ghost use Rattle.report.specs.Report.{longest, input_of, node_lines, refusal_line, longest_answer, input_is, Answered};
+ghost use Rattle.text.specs.Text.{Wrote};
+ghost use Rattle.report.specs.Report.{longest, input_of, node_lines, refusal_line, longest_answer, input_is, Gave, Answered};
 
-use deadlock::{Found, all_deadlocked};
+use deadlock::all_deadlocked;
 use lines::refused;
-use nodes::{Set, Smallest};
-use reader::{Outcome, read_file, told_as};
-use text::{number, put};
+use nodes::Set;
+use reader::{Wrong, read_file, told_as};
+use text::Text;
 use waits::ROW;
 
 // More bytes than a file may have are not looked into.
@@ -38,38 +38,43 @@ pub fn text_room() -> [u8; TEXT]
 }
 
 // The members of a set, ascending, one a line.
-fn node_lines(room: &mut [u8], at: usize, s: Set) -> usize
-    ensures { text room.new result ≡ write (text room.old at) (node_lines (members (num s))) }
+fn node_lines(out: &mut Text, s: Set)
+    ensures { Wrote out.old out.new (node_lines (members (num s))) }
 {
-    let mut left = s;
-    let mut end = at;
-    loop {
-        let next = left.smallest();
-        let Smallest::At(k) = next else {
-            return end;
-        };
-        end = number(room, end, k.0 as u64);
-        end = put(room, end, b'\n');
-        left = left.minus(Set::empty().with(k));
+    for k in s.members() {
+        out.number(k.0 as u64);
+        out.put(b'\n');
     }
 }
 
 // The line of a refusal.
-fn refusal(room: &mut [u8], outcome: Outcome) -> usize
-    ensures { text room.new result ≡ write (text room.old 0) (refusal_line outcome) }
+fn refusal(out: &mut Text, wrong: Wrong)
+    ensures { Wrote out.old out.new (refusal_line wrong) }
 {
-    let told = told_as(outcome);
-    refused(room, 0, told.number, told.place)
+    let told = told_as(wrong);
+    refused(out, told.number, told.place);
 }
 
 // What a graph is answered with.
-fn graph(room: &mut [u8], nodes: usize, rows: &[u64]) -> usize
-    ensures { Answered (input_is nodes rows.now) room.old room.new result }
+fn graph(out: &mut Text, nodes: usize, rows: &[u64])
+    ensures { Gave (input_is nodes rows.now) out.old out.new }
 {
-    let found = all_deadlocked(nodes, rows);
-    match found {
-        Found::Refused(r) => refusal(room, Outcome::Refused(r)),
-        Found::Nodes(s) => node_lines(room, 0, s),
+    match all_deadlocked(nodes, rows) {
+        Ok(s) => node_lines(out, s),
+        Err(r) => refusal(out, Wrong::Refused(r)),
+    }
+}
+
+// What a file is answered with.
+fn answer(out: &mut Text, file: &[u8])
+    ensures { Gave (input_of file.now) out.old out.new }
+{
+    if BYTES < file.len() {
+        return refused(out, 21, 0);
+    }
+    match read_file(file) {
+        Ok(said) => graph(out, said.nodes, &said.rows[..said.nodes * ROW]),
+        Err(wrong) => refusal(out, wrong),
     }
 }
 
@@ -77,19 +82,7 @@ fn graph(room: &mut [u8], nodes: usize, rows: &[u64]) -> usize
 pub fn report(file: &[u8], room: &mut [u8]) -> usize
     ensures { Answered (input_of file.now) room.old room.new result }
 {
-    if BYTES < file.len() {
-        return refused(room, 0, 21, 0);
-    }
-    let said = read_file(file);
-    let outcome = said.outcome;
-    match outcome {
-        Outcome::Line(line) => refusal(room, Outcome::Line(line)),
-        Outcome::Refused(r) => refusal(room, Outcome::Refused(r)),
-        Outcome::Graph => {
-            let nodes = said.nodes;
-            let rows = said.rows;
-            let size = nodes * ROW;
-            graph(room, nodes, &rows[..size])
-        }
-    }
+    let mut out = Text::new(room);
+    answer(&mut out, file);
+    out.end
 }

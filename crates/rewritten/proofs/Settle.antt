@@ -31,6 +31,7 @@ use Rattle.report.specs.Report.Input.{TooLong, Says}
 use Rattle.report.proofs.Settle.{read_accepted}
 use Rattle.report.proofs.Unique.{one_answer}
 use Rattle.rewritten.specs.Rewritten.{written_back, rewritten_of}
+use Rattle.waits.specs.declared.refusals.Reason.TheVariants.{ShortRoom}
 
 -- ---- the writer refuses neither an accepted graph nor room for any file
 module _ (n : ℕ) (rows found : List ℕ) (ok : check_of n rows ≡ Accepted) (roomy : found ≡ replicate longest_file 0) where
@@ -40,7 +41,7 @@ module _ (n : ℕ) (rows found : List ℕ) (ok : check_of n rows ≡ Accepted) (
   accepted : check_file_of n rows (length found) ≡ Accepted
   unfolding check_of check_file_of short_room
   accepted =
-      let last : Rule = line 15 0 (short_room n rows (length found)) in
+      let last : Rule = line ShortRoom 0 (short_room n rows (length found)) in
       sym (not_refused last (next (graph_lines n rows) last) ok (le-ltb (length found) (length (file_of n rows)) (omega (arith, room_enough, file_short n rows ok))))
 
   module _ (left : List ℕ) (r : Written) (says : WrittenSays n rows found left r) where

@@ -10,6 +10,7 @@ use native.Mathlib.Omega.{arith}
 use lib.Dec.{leb, eqb}
 use lib.ListN.{length, length-append}
 use borrow.Author.Tests.{leb-true, ltb-false, eqb-true, not-false}
+use Rattle.std.specs.Prelude.{Ok}
 use Rattle.lemmas.proofs.Tests.{and_right}
 use Rattle.nodes.specs.Sets.{In, members, size}
 use Rattle.nodes.specs.Words.{num}
@@ -17,7 +18,6 @@ use Rattle.nodes.proofs.Inside.{inside_in, inside_lt}
 use Rattle.nodes.proofs.Members.{members_in}
 use Rattle.nodes.proofs.Size.{size_members, size_le, size_mono}
 use Rattle.waits.specs.declared.rows.Row.{Row}
-use Rattle.waits.specs.declared.numbers.Checked.TheVariants.{Accepted}
 use Rattle.waits.specs.Waits.{Waits, edges_to, edges}
 use Rattle.waits.specs.Rows.{row_at, sets_of, out_of, rows_at, rows_of, waits_of}
 use Rattle.waits.specs.Numbers.{most_edges, line, strange_kind, wrong_threshold, many_edges, rows_lines, check_of}
@@ -30,6 +30,7 @@ use Rattle.text.proofs.Decimal.{decimal_two}
 use Rattle.format.specs.Cut.{space, comma, cr, lf, behind, joined, ended}
 use Rattle.format.specs.Written.{set_text, row_text, row_texts, header_text, file_of}
 use Rattle.writer.specs.Answer.{longest_file}
+use Rattle.waits.specs.declared.refusals.Reason.TheVariants.{ManyEdges}
 
 -- ---- a set: three bytes at most for each member
 abbrev Small : List ℕ → Type 0
@@ -98,7 +99,7 @@ threshold_most r e = go (eqb r.kind 1) e
     go false h = let z = eqb-true r.threshold 0 (not-false _ h) in omega arith
 
 -- ---- the file
-module _ (n : ℕ) (rows : List ℕ) (ok : check_of n rows ≡ Accepted) where
+module _ (n : ℕ) (rows : List ℕ) (ok : check_of n rows ≡ Ok tt) where
   abbrev w : Waits
   w = waits_of n rows
 
@@ -134,7 +135,7 @@ module _ (n : ℕ) (rows : List ℕ) (ok : check_of n rows ≡ Accepted) where
   edges_few : edges w ≤ most_edges
   unfolding many_edges
   edges_few =
-      ltb-false most_edges (edges w) ((check_accepted n rows).0 ok (line 8 0 (many_edges n rows)) (there (Memᴰ.append_right (rows_lines n rows 0 n) (here refl))))
+      ltb-false most_edges (edges w) ((check_accepted n rows).0 ok (line ManyEdges 0 (many_edges n rows)) (there (Memᴰ.append_right (rows_lines n rows 0 n) (here refl))))
 
   -- Theorem: no file of an accepted graph is longer than this.
   pub file_short : length (file_of n rows) ≤ longest_file

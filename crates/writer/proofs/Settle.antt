@@ -1,22 +1,21 @@
 -- What the writer of a file answers and leaves, from what its callees said. Assumes nothing.
-use mathlib.Core.Path.{◌≡◌, sym, ap, ◌∙◌}
+use mathlib.Core.Path.{◌≡◌, sym, ap, ap₂, ◌∙◌}
 use mathlib.Core.List.{List, ◌++◌}
 use Prim.Native.Nat.{ℕ, ◌≤◌, ◌<◌}
 use native.Mathlib.Omega.{arith}
 use lib.ListN.{length, take, drop, replicate, length-replicate}
 use lib.Seq.{take_at, length-take-le}
 use borrow.Author.Tests.{lt-ltb, le-ltb}
+use Rattle.std.specs.Prelude.{Result, Ok, Err}
 use Rattle.waits.specs.declared.refusals.Refusal.{Refusal}
-use Rattle.waits.specs.declared.numbers.Checked.{Checked}
-use Rattle.waits.specs.declared.numbers.Checked.TheVariants.{Accepted, Refused}
 use Rattle.waits.specs.Numbers.{Line, line, graph_lines, check_of}
 use Rattle.waits.proofs.Next.{Next, next, refused_before, refused_here, not_refused}
 use Rattle.text.specs.Text.{Text, text, write}
 use Rattle.text.proofs.Writing.{write_fits, written_end}
 use Rattle.format.specs.Written.{file_of}
-use Rattle.writer.specs.declared.Written.TheVariants.{Bytes, Refused as Written-as-Refused}
 use Rattle.writer.specs.Answer.{short_room, check_file_of, answer, leave, written_of, left_of, WrittenSays, longest_file}
 use Rattle.writer.proofs.Lengths.{file_short}
+use Rattle.waits.specs.declared.refusals.Reason.TheVariants.{ShortRoom}
 
 -- ---- the file was made in a place of its own
 module _ (n : ℕ) (rows blank made : List ℕ) (end : ℕ) (m : text made end ≡ write (text blank 0) (file_of n rows)) where
@@ -27,7 +26,7 @@ module _ (n : ℕ) (rows blank made : List ℕ) (end : ℕ) (m : text made end �
   made_length = sym (length-take-le end made made_inside)
 
   -- which is long enough if the graph is accepted
-  module _ (ok : check_of n rows ≡ Accepted) (room : blank ≡ replicate longest_file 0) where
+  module _ (ok : check_of n rows ≡ Ok tt) (room : blank ≡ replicate longest_file 0) where
     whole : text made end ≡ text (file_of n rows ++ drop (length (file_of n rows)) blank) (length (file_of n rows))
     whole = m ∙ write_fits blank (file_of n rows) (omega (arith, file_short n rows ok, ap length room, length-replicate {A = ℕ} longest_file 0))
 
@@ -39,34 +38,34 @@ module _ (n : ℕ) (rows blank made : List ℕ) (end : ℕ) (m : text made end �
 
 -- ---- what is answered and left
 module _ (n : ℕ) (rows found : List ℕ) where
-  settled : {c : Checked} → c ≡ check_file_of n rows (length found) → WrittenSays n rows found (leave c (file_of n rows) found) (answer c (file_of n rows))
+  settled : {c : Result Unit Refusal} → c ≡ check_file_of n rows (length found) → WrittenSays n rows found (leave c (file_of n rows) found) (answer c (file_of n rows))
   unfolding written_of left_of
-  settled e = (ap (λ (c : Checked). answer c (file_of n rows)) e, ap (λ (c : Checked). leave c (file_of n rows) found) e)
+  settled e = (ap (λ (c : Result Unit Refusal). answer c (file_of n rows)) e, ap (λ (c : Result Unit Refusal). leave c (file_of n rows) found) e)
 
   abbrev last : Line
-  last = line 15 0 (short_room n rows (length found))
+  last = line ShortRoom 0 (short_room n rows (length found))
 
   follows : Next (check_of n rows) last (check_file_of n rows (length found))
   unfolding check_of check_file_of
   follows = next (graph_lines n rows) last
 
   -- the graph is refused
-  pub graph_refused : {r : Refusal} → check_of n rows ≡ Refused r → WrittenSays n rows found found (Written-as-Refused r)
+  pub graph_refused : {r : Refusal} → check_of n rows ≡ Err r → WrittenSays n rows found found (Err r)
   graph_refused e = settled (refused_before last follows e)
 
-  module _ (ok : check_of n rows ≡ Accepted) {blank : List ℕ} (room : blank ≡ replicate longest_file 0) (made : List ℕ) (end : ℕ) (m : text made end ≡ write (text blank 0) (file_of n rows)) where
+  module _ (ok : check_of n rows ≡ Ok tt) {blank : List ℕ} (room : blank ≡ replicate longest_file 0) (made : List ℕ) (end : ℕ) (m : text made end ≡ write (text blank 0) (file_of n rows)) where
     -- the lent bytes are too few
-    pub room_short : length found < end → WrittenSays n rows found found (Written-as-Refused last.gives)
+    pub room_short : length found < end → WrittenSays n rows found found (Err last.gives)
     unfolding short_room
     room_short h =
         let less : length found < length (file_of n rows) = omega (arith, count n rows blank made end m ok room) in
         settled (refused_here last follows ok (lt-ltb _ _ less))
 
-    -- or not, and what was made is written into them
-    pub file_written : end ≤ length found → {left : List ℕ} {r : ℕ} → text left r ≡ write (text found 0) (take end made) → WrittenSays n rows found left (Bytes r)
+    -- or not, and what was made is copied into them
+    pub file_written : end ≤ length found → {copy : List ℕ} → copy ≡ take end made → WrittenSays n rows found (copy ++ drop end found) (Ok end)
     unfolding short_room
     file_written h e =
-        let enough : length (file_of n rows) ≤ length found = omega (arith, count n rows blank made end m ok room) in
-        let all = e ∙ ap (write (text found 0)) (front n rows blank made end m ok room) ∙ write_fits found (file_of n rows) enough in
+        let same : end ≡ length (file_of n rows) = count n rows blank made end m ok room in
+        let enough : length (file_of n rows) ≤ length found = omega arith in
         let says = settled (not_refused last follows ok (le-ltb _ _ enough)) in
-        (ap (λ (t : Text). Bytes t.end) all ∙ says.0, ap (λ (t : Text). t.places) all ∙ says.1)
+        (ap Ok same ∙ says.0, ap₂ (λ (l : List ℕ) (i : ℕ). l ++ drop i found) (e ∙ front n rows blank made end m ok room) same ∙ says.1)

@@ -1,6 +1,6 @@
 -- `after` meets its contract. Assumes nothing.
-use Rattle.text.proofs.Writing.{write_both}
+use Rattle.text.proofs.Writing.{wrote_then}
 use Rattle.writer.proofs.after.Goals as goal
 
 pub returns : goal.returns
-returns c = write_both _ _ _ c.put-end.ensures c.number.ensures
+returns c = wrote_then c.put.ensures c.number.ensures

@@ -1,8 +1,7 @@
 -- `row_text` meets its contract. Assumes nothing.
-use mathlib.Core.Path.{sym, ap, ◌∙◌}
+use mathlib.Core.Path.{sym}
 use mathlib.Core.List.{append-nil}
-use Rattle.text.specs.Text.{write}
-use Rattle.text.proofs.Writing.{write_both}
+use Rattle.text.proofs.Writing.{wrote_as, wrote_then}
 use Rattle.format.specs.Cut.{behind, joined}
 use Rattle.format.specs.Written.{row_text}
 use Rattle.writer.proofs.row_text.Goals as goal
@@ -10,7 +9,7 @@ use Rattle.writer.proofs.row_text.Goals as goal
 pub returns : goal.returns
 unfolding row_text joined behind
 returns c =
-    let from_fourth = c.set_field.ensures ∙ ap (write _) (sym (append-nil _)) in
-    let from_second = write_both _ _ _ c.set_field-end-2.ensures (write_both _ _ _ c.set_field-end-3.ensures from_fourth) in
-    let from_threshold = write_both _ _ _ c.after-end-2.ensures (write_both _ _ _ c.set_field-end.ensures from_second) in
-    write_both _ _ _ c.number-end.ensures (write_both _ _ _ c.after-end.ensures from_threshold)
+    let fourth = wrote_as (sym (append-nil _)) c.set_field-4.ensures in
+    let sets = wrote_then c.set_field.ensures (wrote_then c.set_field-2.ensures (wrote_then c.set_field-3.ensures fourth)) in
+    let numbers = wrote_then c.number.ensures (wrote_then c.after.ensures (wrote_then c.after-2.ensures sets)) in
+    wrote_then c.bytes.ensures numbers

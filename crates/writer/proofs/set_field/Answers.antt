@@ -1,17 +1,19 @@
 -- `set_field` meets its contract. Assumes nothing.
 use mathlib.Core.Path.{sym, ◌∙◌}
-use native.Mathlib.Omega.{arith}
-use Rattle.nodes.specs.Words.{places, num}
-use Rattle.nodes.proofs.First.{first_place}
-use Rattle.writer.proofs.Parts.{set_written, none_written}
+use Rattle.text.proofs.Writing.{wrote_as, left_all, left_next, left_none}
+use Rattle.writer.proofs.Parts.{set_first, set_none, member_next, member_none}
 use Rattle.writer.proofs.set_field.Goals as goal
 
 pub returns-in_default : goal.returns-in_default
-returns-in_default c = none_written _ (sym c.in_default.is ∙ c.smallest-next.ensures) _ c.put.ensures
+returns-in_default c = wrote_as (sym (set_none _ (sym c.members-members.ensures ∙ c.in_default.ensures.steps.0))) c.put.ensures
 
-pub with-requires : goal.with-requires
-unfolding num
-with-requires c = first_place (num c.args.s) _ (sym c.in-At.is ∙ c.smallest-next.ensures) places (omega arith)
+pub loop-k-init : goal.loop-k-init
+loop-k-init c =
+    let h = c.in-Some.ensures.steps in
+    left_next (left_all _ _) c.after.ensures (set_first _ (cc))
+
+pub loop-k-preserved : goal.loop-k-preserved
+loop-k-preserved c = left_next c.loop-k.invariant c.after-in-loop-k.ensures (member_next c.in-Some-k.ensures.steps)
 
 pub returns : goal.returns
-returns c = set_written _ _ (sym c.in-At.is ∙ c.smallest-next.ensures) c.minus.ensures c.with.ensures c.empty.ensures _ c.after-end.ensures c.others.ensures
+returns c = left_none c.loop-k.invariant (member_none c.in-None.ensures.steps.0)

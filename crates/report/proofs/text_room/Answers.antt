@@ -1,6 +1,0 @@
--- `text_room` meets its contract. Assumes nothing.
-use mathlib.Core.Path.{refl}
-use Rattle.report.proofs.text_room.Goals as goal
-
-pub returns : goal.returns
-returns c = refl
