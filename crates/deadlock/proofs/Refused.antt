@@ -42,20 +42,20 @@ room_next n rows i room = asked_next n rows i [] (line ShortRoom 0 (small_room n
 pub node_refused : (n : ℕ) (rows : List ℕ) (i : ℕ) {r : Refusal} → check_of n rows ≡ Err r → Err r ≡ check_node_of n rows i
 node_refused n rows i = refused_before (line NoNode 0 (no_node n i)) (node_next n rows i)
 
-pub node_strange : (n : ℕ) (rows : List ℕ) (i : ℕ) → check_of n rows ≡ Ok tt → n ≤ i → Err (line 9 0 true).gives ≡ check_node_of n rows i
+pub node_strange : (n : ℕ) (rows : List ℕ) (i : ℕ) → check_of n rows ≡ Ok tt → n ≤ i → Err (line NoNode 0 true).gives ≡ check_node_of n rows i
 unfolding no_node
-node_strange n rows i e h = refused_here (line 9 0 (no_node n i)) (node_next n rows i) e (le-leb n i h)
+node_strange n rows i e h = refused_here (line NoNode 0 (no_node n i)) (node_next n rows i) e (le-leb n i h)
 
 pub room_refused : (n : ℕ) (rows : List ℕ) (i room : ℕ) {r : Refusal} → check_node_of n rows i ≡ Err r → Err r ≡ check_room_of n rows i room
 room_refused n rows i room = refused_before (line ShortRoom 0 (small_room n room)) (room_next n rows i room)
 
-pub room_small : (n : ℕ) (rows : List ℕ) (i room : ℕ) → check_node_of n rows i ≡ Ok tt → room < n → Err (line 15 0 true).gives ≡ check_room_of n rows i room
+pub room_small : (n : ℕ) (rows : List ℕ) (i room : ℕ) → check_node_of n rows i ≡ Ok tt → room < n → Err (line ShortRoom 0 true).gives ≡ check_room_of n rows i room
 unfolding small_room
-room_small n rows i room e h = refused_here (line 15 0 (small_room n room)) (room_next n rows i room) e (lt-ltb room n h)
+room_small n rows i room e h = refused_here (line ShortRoom 0 (small_room n room)) (room_next n rows i room) e (lt-ltb room n h)
 
 pub room_fine : (n : ℕ) (rows : List ℕ) (i room : ℕ) → check_node_of n rows i ≡ Ok tt → n ≤ room → check_room_of n rows i room ≡ Ok tt
 unfolding small_room
-room_fine n rows i room e h = sym (not_refused (line 15 0 (small_room n room)) (room_next n rows i room) e (le-ltb room n h))
+room_fine n rows i room e h = sym (not_refused (line ShortRoom 0 (small_room n room)) (room_next n rows i room) e (le-ltb room n h))
 
 pub node_fine : (n : ℕ) (rows : List ℕ) (i : ℕ) → check_of n rows ≡ Ok tt → i < n → check_node_of n rows i ≡ Ok tt
 unfolding no_node
