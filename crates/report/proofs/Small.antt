@@ -11,7 +11,7 @@ use Rattle.std.specs.Prelude.{Result, Ok, Err}
 use Rattle.waits.specs.declared.rows.Row.{Row}
 use Rattle.waits.specs.declared.refusals.Refusal.{Refusal}
 use Rattle.waits.specs.Rows.{flat}
-use Rattle.waits.specs.Numbers.{check_of}
+use Rattle.waits.specs.Numbers.{reason_number, check_of}
 use Rattle.waits.proofs.Table.{accepted_shaped}
 use Rattle.waits.proofs.Small.{check_small}
 use Rattle.format.specs.Cut.{line_end, onto, lines_of}
