@@ -1,5 +1,4 @@
 -- The words that are written, how long a reason can be, that it is right, and small cases.
-pub mod Naming
 pub mod Said
 pub mod Placed
 pub mod Lengths

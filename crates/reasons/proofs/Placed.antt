@@ -5,10 +5,9 @@ use mathlib.Core.List.{List, [], ◌∷◌, ◌++◌}
 use Prim.Native.Nat.{ℕ, zero, suc, ◌+◌, ◌≤◌, ◌<◌}
 use native.Mathlib.Omega.{arith}
 use lib.ListN.{length}
+use Rattle.std.specs.Prelude.{Result, Ok, Err}
 use Rattle.nodes.specs.Words.{places}
 use Rattle.waits.specs.declared.refusals.Refusal.{Refusal}
-use Rattle.waits.specs.declared.numbers.Checked.{Checked}
-use Rattle.waits.specs.declared.numbers.Checked.TheVariants.{Accepted, Refused as Checked-as-Refused}
 use Rattle.waits.specs.Rows.{flat}
 use Rattle.waits.specs.Numbers.{Line, line, wrong_count, many_edges, rows_lines, first_said, check_of}
 use Rattle.waits.proofs.Cases.{right_count}
@@ -29,20 +28,20 @@ rows_placed n rows last k (suc m) h p =
     let q : k < places = omega arith in
     (q, (q, (q, (q, (q, (q, rows_placed n rows last (suc k) m (omega arith) p))))))
 
-said_placed : (ls : List Line) (r : Refusal) → AllPlaced ls → first_said ls ≡ Checked-as-Refused r → r.row.0 < places
+said_placed : (ls : List Line) (r : Refusal) → AllPlaced ls → first_said ls ≡ Err r → r.row.0 < places
 said_placed [] r p e = absurd (refused_not_accepted (sym e))
 said_placed (l ∷ ls) r p e = go l.says e (said_placed ls r p.1)
   where
-    go : (b : Bool) → cond b (Checked-as-Refused l.gives) (first_said ls) ≡ Checked-as-Refused r → (first_said ls ≡ Checked-as-Refused r → r.row.0 < places) → r.row.0 < places
+    go : (b : Bool) → cond b (Err l.gives) (first_said ls) ≡ Err r → (first_said ls ≡ Err r → r.row.0 < places) → r.row.0 < places
     go true e ih = let same : l.gives ≡ r = cc in omega (arith, p.0, ap (λ (x : Refusal). x.row.0) same)
     go false e ih = ih e
 
-check_placed : (n : ℕ) (rows : List ℕ) (r : Refusal) → check_of n rows ≡ Checked-as-Refused r → r.row.0 < places
+check_placed : (n : ℕ) (rows : List ℕ) (r : Refusal) → check_of n rows ≡ Err r → r.row.0 < places
 unfolding check_of
 check_placed n rows r e = go (wrong_count n (length rows)) refl e
   where
     go : (b : Bool) → wrong_count n (length rows) ≡ b
-        → cond b (Checked-as-Refused (line WrongCount 0 true).gives) (first_said (rows_lines n rows 0 n ++ line ManyEdges 0 (many_edges n rows) ∷ [])) ≡ Checked-as-Refused r → r.row.0 < places
+        → cond b (Err (line WrongCount 0 true).gives) (first_said (rows_lines n rows 0 n ++ line ManyEdges 0 (many_edges n rows) ∷ [])) ≡ Err r → r.row.0 < places
     go true w e = let same : (line WrongCount 0 true).gives ≡ r = cc in omega (arith, ap (λ (x : Refusal). x.row.0) same)
     go false w e =
         let last : List Line = line ManyEdges 0 (many_edges n rows) ∷ [] in
@@ -54,9 +53,9 @@ Placed (Said-as-Line k) = Unit {0}
 Placed (Refused r) = r.row.0 < places
 Placed (Graph n rows) = Unit {0}
 
-judged_placed : (n : ℕ) (rows : List ℕ) (c : Checked) → check_of n rows ≡ c → Placed (judged n rows c)
-judged_placed n rows (Checked-as-Refused r) e = check_placed n rows r e
-judged_placed n rows Accepted e = tt
+judged_placed : (n : ℕ) (rows : List ℕ) (c : Result Unit Refusal) → check_of n rows ≡ c → Placed (judged n rows c)
+judged_placed n rows (Err r) e = check_placed n rows r e
+judged_placed n rows (Ok tt) e = tt
 
 meant_placed : (m : Meant) → Placed (said_of m)
 meant_placed (Broken k) = tt

@@ -9,9 +9,9 @@ use native.Mathlib.Omega.{arith}
 use lib.ListN.{length, get_or}
 use borrow.Author.Tests.{le-ltb}
 use Rattle.lemmas.proofs.Cases.{at_false}
+use Rattle.std.specs.Prelude.{Result, Ok, Err}
 use Rattle.waits.specs.declared.rows.Row.{Row}
-use Rattle.waits.specs.declared.numbers.Checked.{Checked}
-use Rattle.waits.specs.declared.numbers.Checked.TheVariants.{Accepted, Refused as Checked-as-Refused}
+use Rattle.waits.specs.declared.refusals.Refusal.{Refusal}
 use Rattle.waits.specs.Rows.{flat}
 use Rattle.waits.specs.Numbers.{check_of}
 use Rattle.format.specs.Cut.{lines_of}
@@ -69,9 +69,9 @@ SaidBroken ls (Line line) = NoLine ls line
 SaidBroken ls (Refused r) = Unit {0}
 SaidBroken ls (Graph n rows) = Unit {0}
 
-judged_broken : (ls : List (List ℕ)) (n : ℕ) (rows : List ℕ) (c : Checked) → SaidBroken ls (judged n rows c)
-judged_broken ls n rows (Checked-as-Refused r) = tt
-judged_broken ls n rows Accepted = tt
+judged_broken : (ls : List (List ℕ)) (n : ℕ) (rows : List ℕ) (c : Result Unit Refusal) → SaidBroken ls (judged n rows c)
+judged_broken ls n rows (Err r) = tt
+judged_broken ls n rows (Ok tt) = tt
 
 said_broken : (ls : List (List ℕ)) (m : Meant) → LineBroken ls m → SaidBroken ls (said_of m)
 said_broken ls (Broken line) h = h

@@ -2,14 +2,14 @@
 #![tactic(auto)]
 
 ghost use Rattle.std.specs.Prelude.{◌≡◌, replicate};
-ghost use Rattle.text.specs.Text.{text, write};
+ghost use Rattle.text.specs.Text.{text, write, Wrote};
 ghost use Rattle.reasons.specs.Reasons.{longest_reason, line_reason, graph_reason, reason_of};
 
 use crate::words::{fault_words, number_words, place_words};
 use faults::fault_of;
-use reader::{Outcome, read_file};
+use reader::{Wrong, read_file};
 use report::BYTES;
-use text::bytes;
+use text::Text;
 use waits::Refusal;
 
 mod words;
@@ -25,36 +25,41 @@ pub fn words_room() -> [u8; WORDS]
 }
 
 // A line that breaks a rule.
-fn line_reason(file: &[u8], line: usize, room: &mut [u8]) -> usize
-    ensures { text room.new result ≡ write (text room.old 0) (line_reason file.now line) }
+fn line_reason(out: &mut Text, file: &[u8], line: usize)
+    ensures { Wrote out.old out.new (line_reason file.now line) }
 {
-    let fault = fault_of(file, line);
-    let at = fault_words(room, 0, line, fault);
-    bytes(room, at, b"\n")
+    fault_words(out, line, fault_of(file, line));
+    out.put(b'\n');
 }
 
 // A graph that is refused.
-fn graph_reason(r: Refusal, room: &mut [u8]) -> usize
-    ensures { text room.new result ≡ write (text room.old 0) (graph_reason r) }
+fn graph_reason(out: &mut Text, r: Refusal)
+    ensures { Wrote out.old out.new (graph_reason r) }
 {
-    let row = r.row;
-    let mut at = place_words(room, 0, r.number, row.0 as u64);
-    at = number_words(room, at, r.number);
-    bytes(room, at, b"\n")
+    place_words(out, r.number, r.row.0 as u64);
+    out.bytes(number_words(r.number));
+    out.put(b'\n');
+}
+
+// Why a file is refused.
+fn reason(out: &mut Text, file: &[u8])
+    ensures { Wrote out.old out.new (reason_of file.now) }
+{
+    if BYTES < file.len() {
+        return out.bytes(b"the file has more than 65536 bytes\n");
+    }
+    match read_file(file) {
+        Ok(_) => {}
+        Err(Wrong::Line(line)) => line_reason(out, file, line),
+        Err(Wrong::Refused(r)) => graph_reason(out, r),
+    }
 }
 
 // Writes why a file is refused, and says where that ends; nothing is written of a file that isn't refused.
 pub fn reasons(file: &[u8], room: &mut [u8]) -> usize
     ensures { text room.new result ≡ write (text room.old 0) (reason_of file.now) }
 {
-    if BYTES < file.len() {
-        return bytes(room, 0, b"the file has more than 65536 bytes\n");
-    }
-    let said = read_file(file);
-    let outcome = said.outcome;
-    match outcome {
-        Outcome::Line(line) => line_reason(file, line, room),
-        Outcome::Refused(r) => graph_reason(r, room),
-        Outcome::Graph => 0,
-    }
+    let mut out = Text::new(room);
+    reason(&mut out, file);
+    out.end
 }

@@ -1,11 +1,10 @@
 -- `line_reason` meets its contract. Assumes nothing.
-use mathlib.Core.Path.{sym}
-use Rattle.text.proofs.Writing.{write_both}
+use mathlib.Core.Path.{ap}
 use Rattle.text.specs.Words.{word}
-use Rattle.reasons.specs.Reasons.{line_reason}
-use Rattle.reasons.proofs.Said.{in_fault}
+use Rattle.text.proofs.Writing.{wrote_then, wrote_as}
+use Rattle.reasons.specs.Reasons.{fault_words, line_reason}
 use Rattle.reasons.proofs.line_reason.Goals as goal
 
 pub returns : goal.returns
 unfolding line_reason word
-returns c = write_both _ _ _ (in_fault _ _ (sym c.fault_of-fault.ensures) c.fault_words-at.ensures) c.bytes.ensures
+returns c = wrote_then (wrote_as (ap (fault_words _) c.fault_of.ensures) c.fault_words.ensures) c.put.ensures

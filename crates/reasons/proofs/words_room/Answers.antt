@@ -1,6 +1,0 @@
--- `words_room` meets its contract. Assumes nothing.
-use mathlib.Core.Path.{refl}
-use Rattle.reasons.proofs.words_room.Goals as goal
-
-pub returns : goal.returns
-returns c = refl
