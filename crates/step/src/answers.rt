@@ -27,7 +27,7 @@ pub enum Answer {
 }
 
 // The next record, who is sent what, and the answer.
-#[derive(Clone, Copy)]
+#[derive(Clone, Copy, Debug, PartialEq, Eq)]
 pub struct Stepped {
     pub state: Record,
     pub sends: Sends,

@@ -10,7 +10,7 @@ use nodes::{Node, Set};
 use records::{Cause, Record};
 use waits::{Row, holds, out_of};
 
-#[derive(Clone, Copy)]
+#[derive(Clone, Copy, Debug, PartialEq, Eq)]
 pub struct Own {
     pub me: Node,
     pub row: Row,
