@@ -56,12 +56,10 @@ fn send_kind(
     ensures { (result ≡ at + size (num to)) × (messages.new ≡ sets messages.old at (map number_of (letters kind from.0 round.0 (num to)))) }
 {
     let first = base(kind, from, round);
-    let mut left = to;
     let mut place = at;
-    while let Some(k) = left.smallest() {
+    for k in to.members() {
         messages[place] = first + k.0 as u64;
         place += 1;
-        left = left.minus(Set::empty().with(k));
     }
     place
 }
