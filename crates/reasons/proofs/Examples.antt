@@ -15,7 +15,7 @@ use Rattle.faults.specs.Faults.{line_fault, mark, header_fault, field_flaw, fiel
 use Rattle.report.specs.Report.{longest, input_of}
 use Rattle.report.specs.Report.Input.{Says}
 use Rattle.reasons.specs.Reasons.{longest_reason, flaw_words, fault_words, line_reason, number_words, place_words, graph_reason, reason_for, reason_of}
-use Rattle.waits.specs.declared.refusals.Reason.TheVariants.{WrongCount, WrongThreshold, ManyEdges}
+use Rattle.waits.specs.declared.refusals.Reason.TheVariants.{WrongThreshold, ManyEdges}
 
 -- the definitions that are computed with
 unfoldable open_reasons : Unit {0}
@@ -44,7 +44,7 @@ marked : reason_of (mark ++ under "0,0,0,,,,\r\n") ≡ word "line 1 begins with 
 unfolding open_reasons
 marked = refl
 
-header : reason_of (word "node,kind,set1,set2,set3,set4\r\n0,0,0,,,,\r\n") ≡ word "line WrongCount isn't the header node,kind,threshold,set1,set2,set3,set4\n"
+header : reason_of (word "node,kind,set1,set2,set3,set4\r\n0,0,0,,,,\r\n") ≡ word "line 1 isn't the header node,kind,threshold,set1,set2,set3,set4\n"
 unfolding open_reasons
 header = refl
 
