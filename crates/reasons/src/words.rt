@@ -109,8 +109,10 @@ pub fn number_words(reason: Reason) -> &'static [u8]
         Reason::StrangeKind => b"the kind isn't 0, 1 or 2",
         Reason::StrangeMember => b"a set names something that is no node",
         Reason::WaitsOnItself => b"the node waits on itself",
-        Reason::WrongThreshold => b"the threshold isn't 1 to the size of set1 at kind 1, or isn't 0 at another kind",
-        Reason::ExtraSet => b"there is a set where the kind has none: any at kind 0, any but set1 at kind 1",
+        Reason::WrongThreshold =>
+            b"the threshold isn't 1 to the size of set1 at kind 1, or isn't 0 at another kind",
+        Reason::ExtraSet =>
+            b"there is a set where the kind has none: any at kind 0, any but set1 at kind 1",
         Reason::BadSets => b"kind 2 has no set, or one of its sets lies inside another",
         _ => b"there are more than 512 edges",
     }
