@@ -1,4 +1,4 @@
--- Where a byte and a line stand, the walks along a field and a line, and that what is said of them agrees with how they are read.
+-- Where a mark and a line stand, the walks along a field and a line, and that what is said of them agrees with how they are read.
 pub mod Standing
 pub mod Judging
 pub mod Walking
