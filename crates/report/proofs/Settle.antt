@@ -5,7 +5,7 @@ use mathlib.Core.List.{List}
 use Prim.Native.Nat.{ℕ, ◌*◌, ◌≤◌, ◌<◌}
 use native.Mathlib.Omega.{arith}
 use lib.ListN.{length, take, length-replicate}
-use lib.Seq.{sets, length-sets}
+use lib.Seq.{sets}
 use borrow.Author.Tests.{lt-ltb, le-ltb}
 use Rattle.std.specs.Prelude.{Result, Ok, Err}
 use Rattle.lemmas.proofs.Cases.{at_true, at_false}
@@ -122,9 +122,6 @@ module _ (bytes : List ℕ) where
 
       pub few_nodes : f.nodes ≤ places
       few_nodes = omega (arith, graph.count, shaped.0)
-
-      pub rows_fit : f.nodes * row_size ≤ length f.rows
-      rows_fit = omega (arith, few_nodes, ap length graph.stored, length-sets zeros 0 graph.rows, length-replicate {A = ℕ} numbers 0)
 
       rows_taken : take (f.nodes * row_size) f.rows ≡ graph.rows
       rows_taken =

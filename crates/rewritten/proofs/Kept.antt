@@ -7,8 +7,8 @@ use native.Mathlib.Omega.{arith}
 use lib.Dec.{ltb}
 use lib.ListN.{length}
 use borrow.Author.Tests.{le-ltb}
+use Rattle.std.specs.Prelude.{Ok}
 use Rattle.lemmas.proofs.Cases.{at_false}
-use Rattle.waits.specs.declared.numbers.Checked.TheVariants.{Accepted}
 use Rattle.waits.specs.Numbers.{check_of}
 use Rattle.format.specs.Files.{Said, read_of}
 use Rattle.format.specs.Files.Said.{Graph}
@@ -29,7 +29,7 @@ said_read bytes s = by (ltb longest (length bytes))
     by true e = absurd (let z : ◌≡◌ {A = ℕ} 0 1 = cc e in omega arith)
     by false e = cc e
 
-pub said_accepted : (bytes : List ℕ) (n : ℕ) (rows : List ℕ) → input_of bytes ≡ Says (Graph n rows) → check_of n rows ≡ Accepted
+pub said_accepted : (bytes : List ℕ) (n : ℕ) (rows : List ℕ) → input_of bytes ≡ Says (Graph n rows) → check_of n rows ≡ Ok tt
 said_accepted bytes n rows e = read_accepted n rows bytes (said_read bytes (Graph n rows) e)
 
 module _ (bytes : List ℕ) (n : ℕ) (rows : List ℕ) (e : input_of bytes ≡ Says (Graph n rows)) where

@@ -6,57 +6,52 @@ use native.Mathlib.Omega.{arith}
 use lib.ListN.{length, take, drop, replicate, length-replicate, length-append}
 use lib.Seq.{take_at}
 use borrow.Author.Tests.{lt-ltb, le-ltb}
+use Rattle.std.specs.Prelude.{Result, Ok, Err}
 use Rattle.lemmas.proofs.Cases.{at_true, at_false}
-use Rattle.lemmas.proofs.Stores.{front_taken}
 use Rattle.waits.specs.declared.refusals.Refusal.{Refusal}
-use Rattle.waits.specs.declared.numbers.Checked.{Checked}
-use Rattle.waits.specs.declared.numbers.Checked.TheVariants.{Accepted}
 use Rattle.waits.specs.Rows.{row_size}
 use Rattle.waits.specs.Numbers.{Line as Rule, line, graph_lines, check_of}
-use Rattle.waits.proofs.Table.{accepted_shaped}
 use Rattle.waits.proofs.Next.{next, not_refused}
 use Rattle.text.specs.Text.{text, write}
-use Rattle.format.specs.Files.{Said, read_of}
+use Rattle.format.specs.Files.{read_of}
 use Rattle.format.specs.Files.Said.{Line, Refused, Graph}
 use Rattle.format.specs.Written.{file_of}
-use Rattle.reader.specs.declared.files.Outcome.TheVariants.{Graph as Outcome-as-Graph, Line as Outcome-as-Line, Refused as Outcome-as-Refused}
+use Rattle.reader.specs.declared.files.Wrong.{Wrong}
 use Rattle.reader.specs.declared.files.File.{File}
-use Rattle.reader.specs.Answers.{numbers, zeros, no_graph, file_said}
-use Rattle.writer.specs.declared.Written.{Written}
-use Rattle.writer.specs.declared.Written.TheVariants.{Bytes, Refused as Written-as-Refused}
+use Rattle.reader.specs.Answers.{file_said}
 use Rattle.writer.specs.Answer.{short_room, check_file_of, answer, leave, written_of, left_of, WrittenSays, longest_file}
 use Rattle.writer.proofs.Lengths.{file_short}
 use Rattle.report.specs.Report.{longest, Input, input_of, Answers, Answered}
 use Rattle.report.specs.Report.Input.{TooLong, Says}
-use Rattle.report.proofs.Settle.{read_accepted}
+use Rattle.report.proofs.Settle.{read_accepted, is_graph}
 use Rattle.report.proofs.Unique.{one_answer}
 use Rattle.rewritten.specs.Rewritten.{written_back, rewritten_of}
 use Rattle.waits.specs.declared.refusals.Reason.TheVariants.{ShortRoom}
 
 -- ---- the writer refuses neither an accepted graph nor room for any file
-module _ (n : ℕ) (rows found : List ℕ) (ok : check_of n rows ≡ Accepted) (roomy : found ≡ replicate longest_file 0) where
+module _ (n : ℕ) (rows found : List ℕ) (ok : check_of n rows ≡ Ok tt) (roomy : found ≡ replicate longest_file 0) where
   room_enough : length found ≡ longest_file
   room_enough = ap length roomy ∙ length-replicate {A = ℕ} longest_file 0
 
-  accepted : check_file_of n rows (length found) ≡ Accepted
+  accepted : check_file_of n rows (length found) ≡ Ok tt
   unfolding check_of check_file_of short_room
   accepted =
       let last : Rule = line ShortRoom 0 (short_room n rows (length found)) in
       sym (not_refused last (next (graph_lines n rows) last) ok (le-ltb (length found) (length (file_of n rows)) (omega (arith, room_enough, file_short n rows ok))))
 
-  module _ (left : List ℕ) (r : Written) (says : WrittenSays n rows found left r) where
-    is_written : r ≡ Bytes (length (file_of n rows))
+  module _ (left : List ℕ) (r : Result ℕ Refusal) (says : WrittenSays n rows found left r) where
+    is_written : r ≡ Ok (length (file_of n rows))
     unfolding written_of
-    is_written = says.0 ∙ ap (λ (c : Checked). answer c (file_of n rows)) accepted
+    is_written = says.0 ∙ ap (λ (c : Result Unit Refusal). answer c (file_of n rows)) accepted
 
     stands : left ≡ file_of n rows ++ drop (length (file_of n rows)) found
     unfolding left_of
-    stands = says.1 ∙ ap (λ (c : Checked). leave c (file_of n rows) found) accepted
+    stands = says.1 ∙ ap (λ (c : Result Unit Refusal). leave c (file_of n rows) found) accepted
 
-    pub never_refused : {x : Refusal} → r ≡ Written-as-Refused x → ⊥
+    pub never_refused : {x : Refusal} → r ≡ Err x → ⊥
     never_refused e = let z : ◌≡◌ {A = ℕ} 0 1 = cc (e, is_written) in omega arith
 
-    module _ (end : ℕ) (e : r ≡ Bytes end) where
+    module _ (end : ℕ) (e : r ≡ Ok end) where
       all : end ≡ length (file_of n rows)
       all = cc (e, is_written)
 
@@ -87,45 +82,23 @@ module _ (bytes found left : List ℕ) (end : ℕ) where
   unfolding input_of
   long_refused h = refused (λ n rows e. let z : ◌≡◌ {A = ℕ} 0 1 = cc (e, at_true (Says (read_of bytes)) (lt-ltb longest (length bytes) h) refl) in omega arith)
 
-  module _ (h : length bytes ≤ longest) {f : File} (read : f ≡ file_said (read_of bytes)) where
+  module _ (h : length bytes ≤ longest) {x : Result File Wrong} (read : x ≡ file_said (read_of bytes)) where
     says : input_of bytes ≡ Says (read_of bytes)
     unfolding input_of
     says = sym (at_false TooLong (le-ltb longest (length bytes) h) refl)
 
-    file_refused : (f.outcome ≡ Outcome-as-Graph → ⊥) → Answered (input_of bytes) found left end → text left end ≡ write (text found 0) (rewritten_of bytes)
+    pub wrong_refused : {w : Wrong} → x ≡ Err w → Answered (input_of bytes) found left end → text left end ≡ write (text found 0) (rewritten_of bytes)
     unfolding file_said
-    file_refused other = refused λ n rows e.
-        let graph : read_of bytes ≡ Graph n rows = cc (e, says) in
-        other (ap (λ (x : File). x.outcome) (read ∙ ap file_said graph))
+    wrong_refused e = refused λ n rows f.
+        let graph : read_of bytes ≡ Graph n rows = cc (f, says) in
+        let said = ap file_said graph in
+        cc (e, read, said)
 
-    pub line_refused : {line : ℕ} → f.outcome ≡ Outcome-as-Line line → Answered (input_of bytes) found left end → text left end ≡ write (text found 0) (rewritten_of bytes)
-    line_refused e = file_refused (λ g. let z : ◌≡◌ {A = ℕ} 0 1 = cc (e, g) in omega arith)
+    pub graph_written : {f : File} → x ≡ Ok f → text left end ≡ write (text found 0) (file_of f.nodes (take (f.nodes * row_size) f.rows))
+        → text left end ≡ write (text found 0) (rewritten_of bytes)
+    unfolding rewritten_of written_back
+    graph_written e w = w ∙ ap (λ (i : Input). write (text found 0) (written_back i)) (ap Says (sym (is_graph bytes read e)) ∙ sym says)
 
-    pub graph_refused : {r : Refusal} → f.outcome ≡ Outcome-as-Refused r → Answered (input_of bytes) found left end → text left end ≡ write (text found 0) (rewritten_of bytes)
-    graph_refused e = file_refused (λ g. let z : ◌≡◌ {A = ℕ} 0 1 = cc (e, g) in omega arith)
-
--- what the reader hands over of a graph is this graph
-handed : (bytes : List ℕ) (s : Said) → read_of bytes ≡ s → (file_said s).outcome ≡ Outcome-as-Graph
-    → s ≡ Graph (file_said s).nodes (take ((file_said s).nodes * row_size) (file_said s).rows)
-unfolding file_said no_graph
-handed bytes (Line l) e o = absurd (let z : ◌≡◌ {A = ℕ} 0 1 = cc o in omega arith)
-handed bytes (Refused r) e o = absurd (let z : ◌≡◌ {A = ℕ} 0 1 = cc o in omega arith)
-handed bytes (Graph n rows) e o =
-    let shape = accepted_shaped n rows (read_accepted n rows bytes e) in
-    ap (Graph n) (sym (front_taken zeros rows (sym shape.1) (omega (arith, shape.0, shape.1, length-replicate {A = ℕ} numbers 0))))
-
-module _ (bytes : List ℕ) {f : File} (read : f ≡ file_said (read_of bytes)) (e : f.outcome ≡ Outcome-as-Graph) where
-  abbrev rows : List ℕ
-  rows = take (f.nodes * row_size) f.rows
-
-  is_graph : read_of bytes ≡ Graph f.nodes rows
-  is_graph = rw read (handed bytes (read_of bytes) refl (sym (ap (λ (x : File). x.outcome) read) ∙ e))
-
-  pub graph_accepted : check_of f.nodes rows ≡ Accepted
-  graph_accepted = read_accepted f.nodes rows bytes is_graph
-
-  pub graph_written : (found left : List ℕ) (end : ℕ) → length bytes ≤ longest → text left end ≡ write (text found 0) (file_of f.nodes rows)
-      → text left end ≡ write (text found 0) (rewritten_of bytes)
-  unfolding rewritten_of written_back
-  graph_written found left end h w =
-      w ∙ ap (λ (i : Input). write (text found 0) (written_back i)) (ap Says (sym is_graph) ∙ sym (says bytes found left end h read))
+module _ (bytes : List ℕ) {x : Result File Wrong} (read : x ≡ file_said (read_of bytes)) {f : File} (e : x ≡ Ok f) where
+  pub graph_accepted : check_of f.nodes (take (f.nodes * row_size) f.rows) ≡ Ok tt
+  graph_accepted = read_accepted f.nodes (take (f.nodes * row_size) f.rows) bytes (is_graph bytes read e)
