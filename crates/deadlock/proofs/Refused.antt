@@ -14,7 +14,7 @@ use Rattle.waits.proofs.Next.{Next, next, refused_before, refused_here, not_refu
 use Rattle.deadlock.specs.Refusals.{strange_entry, not_ascending, small_room, asked_lines, check_node_of, check_list_of, check_room_of}
 use Rattle.waits.specs.declared.refusals.Reason.TheVariants.{NoNode, StrangeEntry, ShortRoom, NotAscending}
 
-pub node_next : (n : ℕ) (rows : List ℕ) (i : ℕ) → Next (check_of n rows) (line NoNode 0 (no_node n i)) (check_node_of n rows i)
+node_next : (n : ℕ) (rows : List ℕ) (i : ℕ) → Next (check_of n rows) (line NoNode 0 (no_node n i)) (check_node_of n rows i)
 unfolding check_of check_node_of
 node_next n rows i = next (graph_lines n rows) (line NoNode 0 (no_node n i))
 
@@ -34,7 +34,7 @@ list_next : (n : ℕ) (rows : List ℕ) (i : ℕ) (l : List ℕ) → Next (entri
 unfolding check_list_of
 list_next n rows i l = asked_next n rows i (line StrangeEntry 0 (strange_entry n l) ∷ []) (line NotAscending 0 (not_ascending l))
 
-pub room_next : (n : ℕ) (rows : List ℕ) (i room : ℕ) → Next (check_node_of n rows i) (line ShortRoom 0 (small_room n room)) (check_room_of n rows i room)
+room_next : (n : ℕ) (rows : List ℕ) (i room : ℕ) → Next (check_node_of n rows i) (line ShortRoom 0 (small_room n room)) (check_room_of n rows i room)
 unfolding check_node_of check_room_of
 room_next n rows i room = asked_next n rows i [] (line ShortRoom 0 (small_room n room))
 
