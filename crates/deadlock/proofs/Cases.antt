@@ -3,42 +3,26 @@ use mathlib.Core.Path.{◌≡◌, refl, sym, ap, ap₂, ◌∙◌}
 use mathlib.Core.Bool.{Bool, true, false, ◌&&◌, ◌||◌}
 use mathlib.Core.Logic.{◌↔◌}
 use mathlib.Core.List.{List, [], ◌∷◌, Memᴰ}
-use Prim.Native.Nat.{ℕ, zero, suc, ◌+◌, ◌≤◌, ◌<◌}
+use Prim.Native.Nat.{ℕ, zero, suc, ◌+◌, ◌<◌}
 use native.Mathlib.Numerals.{add-one}
 use native.Mathlib.Omega.{arith}
 use lib.Dec.{ltb}
 use lib.ListN.{length, get_or, take}
 use lib.Seq.{take-suc}
-use borrow.Author.Tests.{leb-false, le-leb, lt-leb}
+use borrow.Author.Tests.{leb-false, lt-leb}
 use Rattle.std.specs.List.{list_any, IsAllAdjacentAnswer}
 use Rattle.lemmas.specs.Lists.{any_of, ascending}
 use Rattle.lemmas.proofs.Any.{any_none, none_at}
 use Rattle.lemmas.proofs.Tests.{and_later}
-use Rattle.nodes.specs.Sets.{has, meet, minus, with, below, set_of, no_node}
+use Rattle.nodes.specs.Sets.{meet, with, set_of, no_node}
 use Rattle.nodes.proofs.Gather.{list_snoc}
 use Rattle.waits.specs.declared.rows.Row.{Row}
-use Rattle.waits.specs.Waits.{Waits}
-use Rattle.waits.specs.Deadlocked.{outside}
-use Rattle.waits.specs.Rows.{row_at, out_of, holds_of}
-use Rattle.deadlock.specs.declared.evidence.Judged.{Judged}
+use Rattle.waits.specs.Rows.{row_at, out_of}
 use Rattle.deadlock.specs.Refusals.{strange_entry}
-use Rattle.deadlock.specs.Evidence.{first_satisfied}
-use Rattle.deadlock.specs.Sweeps.{ahead_within}
 
 -- ---- rows
-pub met : (rows : List ℕ) (k g : ℕ) {row : Row} {r b : Bool} → r ≡ holds_of row g → row ≡ row_at rows k → r ≡ b → holds_of (row_at rows k) g ≡ b
-met rows k g e f h = sym (e ∙ ap (λ (x : Row). holds_of x g) f) ∙ h
-
-pub met_named : (rows : List ℕ) (j g : ℕ) {k : ℕ} {row : Row} {r b : Bool} → k ≡ j → r ≡ holds_of row g → row ≡ row_at rows k → r ≡ b
-    → holds_of (row_at rows j) g ≡ b
-met_named rows j g q e f h = ap (λ (x : ℕ). holds_of (row_at rows x) g) (sym q) ∙ met rows _ g e f h
-
 pub out_within : (rows : List ℕ) (k s : ℕ) {row : Row} {r o : ℕ} → r ≡ meet s o → o ≡ out_of row → row ≡ row_at rows k → r ≡ meet s (out_of (row_at rows k))
 out_within rows k s e f g = e ∙ ap (meet s) (f ∙ ap out_of g)
-
--- the nodes ahead within a set that a callee gave
-pub within_same : (w : Waits) (i : ℕ) {r s t : ℕ} → r ≡ ahead_within w t i → t ≡ s → r ≡ ahead_within w s i
-within_same w i e f = e ∙ ap (λ (x : ℕ). ahead_within w x i) f
 
 -- ---- lists of bytes
 -- what the library says of a test of some entry, and of each entry and the next
@@ -68,14 +52,6 @@ entries_nodes n l = (
   λ f. (any_none (no_node n) l).1 (λ j m. lt-leb n j (f j m)),
 )
 
-pub entry_strange : (n j : ℕ) {k : ℕ} → k ≡ j → n ≤ k → no_node n j ≡ true
-unfolding no_node
-entry_strange n j e h = le-leb n j (omega arith)
-
-pub entry_known : (n j : ℕ) {k : ℕ} → k ≡ j → k < n → no_node n j ≡ false
-unfolding no_node
-entry_known n j e h = lt-leb n j (omega arith)
-
 -- the nodes named so far, with one more
 pub taken_one : (l : List ℕ) (at s : ℕ) {k r : ℕ} → at < length l → s ≡ set_of (take at l) → k ≡ get_or l at 0 → r ≡ with s k → r ≡ set_of (take (at + 1) l)
 taken_one l at s h e f g =
@@ -85,15 +61,5 @@ pub none_taken : 0 ≡ set_of []
 unfolding set_of
 none_taken = refl
 
--- what the members were asked about: everybody outside the list
-pub asked_outside : (w : Waits) (l : List ℕ) {r : Judged} {g a s : ℕ} → r ≡ first_satisfied w g l → g ≡ minus a s → a ≡ below w.nodes → s ≡ set_of l
-    → r ≡ first_satisfied w (outside w l) l
-unfolding outside
-asked_outside w l e f g h = e ∙ ap (λ (x : ℕ). first_satisfied w x l) (f ∙ ap₂ minus g h)
-
--- ---- a set that a callee gave: whether it has a member, and with one more
-pub standing : (s i : ℕ) {t : ℕ} {r b : Bool} → r ≡ has t i → t ≡ s → r ≡ b → has s i ≡ b
-standing s i e f h = sym (e ∙ ap (λ (x : ℕ). has x i) f) ∙ h
-
-pub with_one : (s i : ℕ) {t r : ℕ} → r ≡ with t i → t ≡ s → r ≡ with s i
-with_one s i e f = e ∙ ap (λ (x : ℕ). with x i) f
+-- what a walk that names the nodes of a list cites
+pub ruleset naming = (entry_node, taken_one, none_taken)

@@ -13,7 +13,7 @@ use Rattle.waits.specs.Numbers.{Line, line, graph_lines, first_said, check_of}
 use Rattle.waits.proofs.Next.{Next, next, refused_before, refused_here, not_refused, next_accepted}
 use Rattle.deadlock.specs.Refusals.{strange_entry, not_ascending, small_room, asked_lines, check_node_of, check_list_of, check_room_of}
 
-pub node_next : (n : ℕ) (rows : List ℕ) (i : ℕ) → Next (check_of n rows) (line 9 0 (no_node n i)) (check_node_of n rows i)
+node_next : (n : ℕ) (rows : List ℕ) (i : ℕ) → Next (check_of n rows) (line 9 0 (no_node n i)) (check_node_of n rows i)
 unfolding check_of check_node_of
 node_next n rows i = next (graph_lines n rows) (line 9 0 (no_node n i))
 
@@ -33,7 +33,7 @@ list_next : (n : ℕ) (rows : List ℕ) (i : ℕ) (l : List ℕ) → Next (entri
 unfolding check_list_of
 list_next n rows i l = asked_next n rows i (line 14 0 (strange_entry n l) ∷ []) (line 18 0 (not_ascending l))
 
-pub room_next : (n : ℕ) (rows : List ℕ) (i room : ℕ) → Next (check_node_of n rows i) (line 15 0 (small_room n room)) (check_room_of n rows i room)
+room_next : (n : ℕ) (rows : List ℕ) (i room : ℕ) → Next (check_node_of n rows i) (line 15 0 (small_room n room)) (check_room_of n rows i room)
 unfolding check_node_of check_room_of
 room_next n rows i room = asked_next n rows i [] (line 15 0 (small_room n room))
 

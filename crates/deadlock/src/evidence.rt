@@ -67,7 +67,7 @@ pub fn write_evidence(
 }
 
 // The set of the nodes that a list names.
-#[tactic(auto, using(crate::proofs::Cases::entry_node, crate::proofs::Cases::taken_one, crate::proofs::Cases::none_taken))]
+#[tactic(auto, using(crate::proofs::Cases::naming))]
 fn set_of(nodes: usize, list: &[u8]) -> Set
     requires { (nodes ≤ places) × (strange_entry nodes list.now ≡ false) }
     ensures { num result ≡ set_of list.now }
