@@ -4,13 +4,13 @@ use Prim.Native.Nat.{◌/◌, ◌%◌, ◌≤◌, ◌<◌}
 use native.Mathlib.Omega.{arith}
 use Rattle.waits.specs.declared.refusals.Refusal.{Refusal}
 use Rattle.coldroom.specs.Results.{refusal, plus}
-use Rattle.waits.specs.Numbers.{Small}
+use Rattle.waits.specs.Numbers.{reason_number, Small}
 
 -- Theorem: a refusal is 1 to 65,535, its number what is left by 256 and its row the rest.
 pub record Read (r : Refusal) : Type 0 where
   pub some : 1 ≤ refusal r
   pub below_plus : refusal r < plus 0
-  pub number : refusal r % 256 ≡ r.number
+  pub number : refusal r % 256 ≡ reason_number r.reason
   pub row : refusal r / 256 ≡ r.row.0
 
 pub reads : (r : Refusal) → Small r → Read r

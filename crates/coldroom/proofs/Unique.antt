@@ -3,7 +3,9 @@ use mathlib.Core.Path.{◌≡◌, sym, ap, ◌∙◌}
 use mathlib.Core.List.{List}
 use Prim.Native.Nat.{ℕ}
 use Rattle.lemmas.proofs.Cases.{only_one}
-use Rattle.deadlock.specs.declared.claims.Found.{Found}
+use Rattle.std.specs.Prelude.{Result}
+use Rattle.nodes.specs.declared.Set.{Set}
+use Rattle.waits.specs.declared.refusals.Refusal.{Refusal}
 use Rattle.deadlock.specs.Claims.{FoundSays, ClaimSays}
 use Rattle.deadlock.specs.Evidence.{WrittenSays}
 use Rattle.deadlock.specs.Ring.{ReportSays}
@@ -21,7 +23,7 @@ one_says : {A : Type 0} (Allowed : A → Type 0) (number_of : A → ℕ) → ((x
 one_says Allowed number_of one r s (x, p, e) (y, q, f) = e ∙ ap number_of (one x y p q) ∙ sym f
 
 -- and one set is left, where one is lent
-one_lent : (Allowed : Found → Type 0) → ((x y : Found) → Allowed x → Allowed y → x ≡ y) → (set left right r s : ℕ)
+one_lent : (Allowed : Result Set Refusal → Type 0) → ((x y : Result Set Refusal) → Allowed x → Allowed y → x ≡ y) → (set left right r s : ℕ)
     → Says (λ x. Allowed x × (left ≡ set_after set x)) found r → Says (λ x. Allowed x × (right ≡ set_after set x)) found s → (r ≡ s) × (left ≡ right)
 one_lent Allowed one set left right r s (x, (p, a), e) (y, (q, b), f) =
     let same : x ≡ y = one x y p q in

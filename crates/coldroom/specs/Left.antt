@@ -1,12 +1,12 @@
 -- What the calls leave: their results and the lent memory. Assumes nothing.
-use Rattle.std.specs.Prelude.{◌≡◌, Bool, true, false, cond, List, [], ◌∷◌, ℕ}
+use Rattle.std.specs.Prelude.{◌≡◌, Bool, true, false, cond, List, [], ◌∷◌, ℕ, Result, Ok, Err}
 use Rattle.std.proofs.lemmas.List.Edits.{sets}
+use Rattle.nodes.specs.declared.Set.{Set}
 use Rattle.nodes.specs.Words.{num}
 use Rattle.records.specs.declared.messages.Message.{Message}
-use Rattle.deadlock.specs.declared.claims.Found.{Found}
-use Rattle.deadlock.specs.declared.claims.Found.TheVariants.{Nodes, Refused as Found-as-Refused}
+use Rattle.waits.specs.declared.refusals.Refusal.{Refusal}
 use Rattle.step.specs.declared.answers.Answer.{Answer}
-use Rattle.step.specs.declared.answers.Answer.TheVariants.{Refused, Old, Stray, Repeat, Taken, Opened}
+use Rattle.step.specs.declared.answers.Answer.TheVariants.{Old, Stray, Repeat, Taken, Opened}
 use Rattle.step.specs.Step.{Receivers, Outcome}
 use Rattle.lent.specs.Kept.{put_state}
 use Rattle.bench.specs.Bench.{Bench, After}
@@ -18,22 +18,22 @@ abbrev pub Says : {A : Type 0} → (A → Type 0) → (A → ℕ) → ℕ → Ty
 Says {A} Allowed number_of r = (x : A) × Allowed x × (r ≡ number_of x)
 
 -- the lent set: written unless the call is refused
-abbrev pub set_after : ℕ → Found → ℕ
-set_after s (Found-as-Refused r) = s
-set_after s (Nodes t) = num t
+abbrev pub set_after : ℕ → Result Set Refusal → ℕ
+set_after s (Err r) = s
+set_after s (Ok t) = num t
 
 -- the message that four numbers stand for
 abbrev pub message : ℕ → ℕ → ℕ → ℕ → Message
 message kind from to round = record { kind = kind; from = record { 0 = from }; to = record { 0 = to }; round = record { 0 = round } }
 
 -- whether anything was done: a message taken, or a round opened
-abbrev pub done : Answer → Bool
-done (Refused r) = false
-done Old = false
-done Stray = false
-done Repeat = false
-done (Taken v) = true
-done (Opened v) = true
+abbrev pub done : Result Answer Refusal → Bool
+done (Err r) = false
+done (Ok Old) = false
+done (Ok Stray) = false
+done (Ok Repeat) = false
+done (Ok (Taken v)) = true
+done (Ok (Opened v)) = true
 
 -- the receivers of NOTIFY, GRANT, ACK and DONE, as four sets
 abbrev pub four_sets : Receivers → List ℕ

@@ -8,9 +8,9 @@ use crate::results::{PLUS, answer, refusal};
 use bench::{run, step};
 use lent::Step;
 use nodes::Round;
-use waits::Checked;
 
 // One step by itself.
+#[tactic(auto, using(crate::proofs::Small::step_answers))]
 #[unsafe(no_mangle)]
 pub extern "C" fn coldroom_step(
     nodes: usize,
@@ -25,11 +25,7 @@ pub extern "C" fn coldroom_step(
 ) -> u64
     ensures { StepLeaves (step_on nodes rows.now (bench records.old messages.old sent.old highest.old) (record { kind = kind; a = a; b = b })) (bench records.new messages.new sent.new highest.new) result }
 {
-    let s = Step {
-        kind: kind,
-        a: a,
-        b: b,
-    };
+    let s = Step { kind, a, b };
     let reply = step(
         nodes,
         rows,
@@ -39,13 +35,13 @@ pub extern "C" fn coldroom_step(
         Round(*highest),
         s,
     );
-    let said = reply.answer;
     *sent = reply.sent as u64;
     *highest = reply.highest.0;
-    answer(said)
+    answer(reply.answer)
 }
 
 // A list of steps, with an answer place for each.
+#[tactic(auto, using(crate::proofs::Small::run_small))]
 #[unsafe(no_mangle)]
 pub extern "C" fn coldroom_run(
     nodes: usize,
@@ -69,11 +65,10 @@ pub extern "C" fn coldroom_run(
         steps,
         answers,
     );
-    let checked = ran.checked;
     *sent = ran.sent as u64;
     *highest = ran.highest.0;
-    match checked {
-        Checked::Accepted => PLUS,
-        Checked::Refused(r) => refusal(r),
+    match ran.checked {
+        Err(r) => refusal(r),
+        Ok(()) => PLUS,
     }
 }

@@ -14,22 +14,17 @@ use node::{deliver, open};
 use nodes::{Node, Round, Set};
 use records::Message;
 use step::{Answer, Sends, Stepped};
+use waits::Refusal;
 
 // Whether anything was done: a message taken, or a round opened.
-fn done(a: Answer) -> bool
+fn done(a: Result<Answer, Refusal>) -> bool
     ensures { result ≡ done_of a }
 {
-    match a {
-        Answer::Refused(_) => false,
-        Answer::Old => false,
-        Answer::Stray => false,
-        Answer::Repeat => false,
-        Answer::Taken(_) => true,
-        Answer::Opened(_) => true,
-    }
+    matches!(a, Ok(Answer::Taken(_) | Answer::Opened(_)))
 }
 
 // Writes who is sent NOTIFY, GRANT, ACK and DONE.
+#[tactic(auto, unfolding(nodes::specs::Words::num))]
 fn put_sends(sends: &mut [u64; 4], to: Sends)
     ensures { sends.new ≡ sets sends.old 0 (four_sets (receivers_of to)) }
 {
@@ -44,18 +39,15 @@ fn leave(kept: &mut [u64; 7], sends: &mut [u64; 4], stepped: Stepped) -> u64
     requires { SmallAnswer stepped.answer }
     ensures { Leaves (outcome_of stepped) kept.old sends.old kept.new sends.new result }
 {
-    let state = stepped.state;
-    let to = stepped.sends;
-    let said = stepped.answer;
-    if !done(said) {
-        return answer(said);
+    if done(stepped.answer) {
+        put_record(kept, Node(0), stepped.state);
+        put_sends(sends, stepped.sends);
     }
-    put_record(kept, Node(0), state);
-    put_sends(sends, to);
-    answer(said)
+    answer(stepped.answer)
 }
 
 // The controller opens a round.
+#[tactic(auto, using(crate::proofs::Small::open_answers), unfolding(nodes::specs::Words::num, lent::specs::Kept::state_at))]
 #[unsafe(no_mangle)]
 pub extern "C" fn coldroom_open(
     nodes: usize,
@@ -74,6 +66,7 @@ pub extern "C" fn coldroom_open(
 }
 
 // A message is delivered to the controller.
+#[tactic(auto, using(crate::proofs::Small::deliver_answers), unfolding(nodes::specs::Words::num, lent::specs::Kept::state_at))]
 #[unsafe(no_mangle)]
 pub extern "C" fn coldroom_deliver(
     nodes: usize,
@@ -91,7 +84,7 @@ pub extern "C" fn coldroom_deliver(
 {
     let r = record_at(kept, Node(0));
     let m = Message {
-        kind: kind,
+        kind,
         from: Node(from),
         to: Node(to),
         round: Round(round),

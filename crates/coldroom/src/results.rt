@@ -14,19 +14,15 @@ pub fn refusal(r: Refusal) -> u64
     requires { Small r }
     ensures { result ≡ refusal_of r }
 {
-    r.number + 256 * r.row.0 as u64
+    r.reason.number() + 256 * r.row.0 as u64
 }
 
-pub fn answer(a: Answer) -> u64
+pub fn answer(a: Result<Answer, Refusal>) -> u64
     requires { SmallAnswer a }
     ensures { result ≡ answer_of a }
 {
     match a {
-        Answer::Refused(r) => refusal(r),
-        Answer::Old => PLUS + code(a),
-        Answer::Stray => PLUS + code(a),
-        Answer::Repeat => PLUS + code(a),
-        Answer::Taken(_) => PLUS + code(a),
-        Answer::Opened(_) => PLUS + code(a),
+        Err(r) => refusal(r),
+        Ok(_) => PLUS + code(a),
     }
 }
