@@ -2,43 +2,37 @@
 use crate::parts::{bytes, checked};
 use crate::rounds::round;
 use crate::say::{members, refusal};
-use deadlock::{Claim, Found, Report, Written};
+use deadlock::Report;
 use nodes::{Node, PLACES};
 use std::io;
 
 fn claim(rt: &impl Print, nodes: usize, rows: &[u64], k: usize) -> io::Result<()> {
-    let said = deadlock::deadlocked(nodes, rows, Node(k));
-    match said {
-        Claim::Deadlocked => print!(rt; "deadlocked")?,
-        Claim::NotDeadlocked => print!(rt; "not deadlocked")?,
-        Claim::Refused(r) => refusal(rt, r)?,
+    match deadlock::deadlocked(nodes, rows, Node(k)) {
+        Ok(true) => print!(rt; "deadlocked"),
+        Ok(false) => print!(rt; "not deadlocked"),
+        Err(r) => refusal(rt, r),
     }
-    Ok(())
 }
 
 fn ring(rt: &impl Print, nodes: usize, rows: &[u64], k: usize) -> io::Result<()> {
-    let said = deadlock::ring_report(nodes, rows, Node(k));
-    match said {
-        Report::InRing => print!(rt; "in the ring")?,
-        Report::BehindRing => print!(rt; "behind the ring")?,
-        Report::NotDeadlocked => print!(rt; "no ring")?,
-        Report::Refused(r) => refusal(rt, r)?,
+    match deadlock::ring_report(nodes, rows, Node(k)) {
+        Ok(Report::InRing) => print!(rt; "in the ring"),
+        Ok(Report::BehindRing) => print!(rt; "behind the ring"),
+        Ok(Report::NotDeadlocked) => print!(rt; "no ring"),
+        Err(r) => refusal(rt, r),
     }
-    Ok(())
 }
 
 // The room is as large as any graph needs.
 fn evidence(rt: &impl Print, nodes: usize, rows: &[u64], k: usize) -> io::Result<()> {
     let mut room = [0u8; PLACES];
-    let written = deadlock::write_evidence(nodes, rows, Node(k), &mut room);
-    match written {
-        Written::Bytes(count) => bytes(rt, &room, count)?,
-        Written::Refused(r) => {
+    match deadlock::write_evidence(nodes, rows, Node(k), &mut room) {
+        Ok(count) => bytes(rt, &room, count),
+        Err(r) => {
             print!(rt; " ")?;
-            refusal(rt, r)?;
+            refusal(rt, r)
         }
     }
-    Ok(())
 }
 
 // A line on one node: each question that can be asked about it.
@@ -64,8 +58,7 @@ fn each(rt: &impl Print, nodes: usize, rows: &[u64]) -> io::Result<()> {
 // What the graph check says, and if it accepts, what is said of all claims and of each.
 pub fn morning(rt: &impl Print, label: &str, nodes: usize, rows: &[u64]) -> io::Result<()> {
     checked(rt, label, nodes, rows)?;
-    let found = deadlock::all_deadlocked(nodes, rows);
-    if let Found::Nodes(s) = found {
+    if let Ok(s) = deadlock::all_deadlocked(nodes, rows) {
         print!(rt; "  deadlocked")?;
         members(rt, s)?;
         println!(rt)?;

@@ -17,12 +17,11 @@ pub fn judged(
     print!(rt; "list")?;
     bytes(rt, list, list.len())?;
     about(rt, node)?;
-    let said = deadlock::check_evidence(nodes, rows, Node(node), list);
-    match said {
-        Judged::Passes => print!(rt; "passes")?,
-        Judged::ClaimMissing => print!(rt; "fails, the claim isn't in it")?,
-        Judged::MemberSatisfied(k) => print!(rt; "fails at member {}", k.0)?,
-        Judged::Refused(r) => refusal(rt, r)?,
+    match deadlock::check_evidence(nodes, rows, Node(node), list) {
+        Ok(Judged::Passes) => print!(rt; "passes")?,
+        Ok(Judged::ClaimMissing) => print!(rt; "fails, the claim isn't in it")?,
+        Ok(Judged::MemberSatisfied(k)) => print!(rt; "fails at member {}", k.0)?,
+        Err(r) => refusal(rt, r)?,
     }
     println!(rt)
 }

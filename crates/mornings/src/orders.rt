@@ -33,12 +33,10 @@ fn end(rt: &impl Print, records: &[u64]) -> io::Result<()>
     let mut free = Set::empty();
     for k in 0..NODES {
         let kept = record_at(records, Node(k));
-        let call = kept.call;
-        let freed = kept.freed;
-        if call.happened() {
+        if kept.call.happened() {
             called = called.with(Node(k));
         }
-        if freed.happened() {
+        if kept.freed.happened() {
             free = free.with(Node(k));
         }
     }
@@ -63,8 +61,7 @@ fn callers(rt: &impl Print, records: &[u64]) -> io::Result<()>
 {
     for k in 0..NODES {
         let kept = record_at(records, Node(k));
-        let call = kept.call;
-        caller(rt, k, call)?;
+        caller(rt, k, kept.call)?;
     }
     Ok(())
 }

@@ -1,7 +1,7 @@
 // Parts of a line.
 use crate::say::refusal;
 use std::io;
-use waits::Checked;
+use waits::Graph;
 
 // What node a line is about.
 pub fn about(rt: &impl Print, node: usize) -> io::Result<()> {
@@ -21,10 +21,9 @@ pub fn bytes(rt: &impl Print, list: &[u8], count: usize) -> io::Result<()> {
 
 // The rest of a line: what the graph check says of these rows.
 pub fn answer(rt: &impl Print, nodes: usize, rows: &[u64]) -> io::Result<()> {
-    let checked = waits::check(nodes, rows);
-    match checked {
-        Checked::Accepted => print!(rt; "accepted, edges {}", waits::edges(nodes, rows))?,
-        Checked::Refused(r) => refusal(rt, r)?,
+    match Graph::checked(nodes, rows) {
+        Ok(graph) => print!(rt; "accepted, edges {}", graph.edges())?,
+        Err(r) => refusal(rt, r)?,
     }
     println!(rt)
 }

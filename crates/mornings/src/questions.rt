@@ -5,7 +5,6 @@ use crate::lists::{judged, offered};
 use crate::mornings::second;
 use crate::parts::{about, bytes};
 use crate::say::refusal;
-use deadlock::Written;
 use nodes::Node;
 use std::io;
 
@@ -19,10 +18,9 @@ fn written(
 ) -> io::Result<()> {
     print!(rt; "room {}", room.len())?;
     about(rt, node)?;
-    let said = deadlock::write_evidence(nodes, rows, Node(node), room);
-    match said {
-        Written::Bytes(count) => print!(rt; "{count}")?,
-        Written::Refused(r) => refusal(rt, r)?,
+    match deadlock::write_evidence(nodes, rows, Node(node), room) {
+        Ok(count) => print!(rt; "{count}")?,
+        Err(r) => refusal(rt, r)?,
     }
     print!(rt; ", bytes")?;
     bytes(rt, room, room.len())?;

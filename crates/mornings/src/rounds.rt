@@ -5,38 +5,26 @@ use lent::{RECORDS, Step, record_numbers};
 use nodes::Round;
 use std::io;
 use step::{Answer, Verdict};
+use waits::Refusal;
 
 // The most messages that a bench holds.
 const ROOM: usize = 4_096;
 
-// The later of two verdicts.
-fn later(before: Verdict, now: Verdict) -> Verdict {
-    match now {
-        Verdict::NoVerdict => before,
-        Verdict::Deadlocked => Verdict::Deadlocked,
-        Verdict::NotDeadlocked => Verdict::NotDeadlocked,
-    }
-}
-
-fn heard(before: Verdict, answer: Answer) -> Verdict {
+// The later of two verdicts: what an answer says, if it says one.
+fn heard(before: Option<Verdict>, answer: Result<Answer, Refusal>) -> Option<Verdict> {
     match answer {
-        Answer::Refused(_) => before,
-        Answer::Old => before,
-        Answer::Stray => before,
-        Answer::Repeat => before,
-        Answer::Taken(v) => later(before, v),
-        Answer::Opened(v) => later(before, v),
+        Ok(Answer::Taken(now) | Answer::Opened(now)) => now.or(before),
+        _ => before,
     }
 }
 
-fn ended(rt: &impl Print, sent: usize, verdict: Verdict) -> io::Result<()> {
-    print!(rt; "sends {sent} and says ")?;
-    match verdict {
-        Verdict::NoVerdict => print!(rt; "nothing")?,
-        Verdict::Deadlocked => print!(rt; "deadlocked")?,
-        Verdict::NotDeadlocked => print!(rt; "not deadlocked")?,
-    }
-    Ok(())
+fn ended(rt: &impl Print, sent: usize, verdict: Option<Verdict>) -> io::Result<()> {
+    let said = match verdict {
+        None => "nothing",
+        Some(Verdict::Deadlocked) => "deadlocked",
+        Some(Verdict::NotDeadlocked) => "not deadlocked",
+    };
+    print!(rt; "sends {sent} and says {said}")
 }
 
 // Which message comes after k others: as the order says, and past its end message k.
@@ -57,10 +45,9 @@ fn deliver(
     opened: Reply,
     order: &[u8],
 ) -> io::Result<()> {
-    let first = opened.answer;
     let top = opened.highest;
     let mut sent = opened.sent;
-    let mut verdict = heard(Verdict::NoVerdict, first);
+    let mut verdict = heard(None, opened.answer);
     for k in 0..ROOM {
         if sent <= k {
             break;
@@ -71,9 +58,8 @@ fn deliver(
             b: 0,
         };
         let reply = bench::step(nodes, rows, records, messages, sent, top, s);
-        let answer = reply.answer;
         sent = reply.sent;
-        verdict = heard(verdict, answer);
+        verdict = heard(verdict, reply.answer);
     }
     ended(rt, sent, verdict)
 }
@@ -94,11 +80,9 @@ pub fn full_round(
         b: 1,
     };
     let opened = bench::step(nodes, rows, records, messages, 0, Round(0), s);
-    let answer = opened.answer;
-    if let Answer::Refused(r) = answer {
+    if let Err(r) = opened.answer {
         print!(rt; "is ")?;
-        refusal(rt, r)?;
-        return Ok(());
+        return refusal(rt, r);
     }
     deliver(rt, nodes, rows, records, messages, opened, order)
 }
