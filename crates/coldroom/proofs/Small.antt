@@ -114,9 +114,9 @@ module _ (n : ℕ) (rows : List ℕ) (b : Bench) where
   unfolding run_of
   run_small steps answers r = go (strange_bench n rows b) (ltb (length answers) (length steps)) _ _
     where
-      go : (p q : Bool) (c : Bench) (l : List ℕ) → (cond p (refuse_all 13 b answers) (cond q (refuse_all 15 b answers) (run c l (Ok tt)))).checked ≡ Err r → Small r
-      go true q c l e = let same : refusal 13 ≡ r = cc e in subst Small same (alone StrangeState refl)
-      go false true c l e = let same : refusal 15 ≡ r = cc e in subst Small same (alone ShortRoom refl)
+      go : (p q : Bool) (c : Bench) (l : List ℕ) → (cond p (refuse_all StrangeState b answers) (cond q (refuse_all ShortRoom b answers) (run c l (Ok tt)))).checked ≡ Err r → Small r
+      go true q c l e = let same : refusal StrangeState ≡ r = cc e in subst Small same (alone StrangeState refl)
+      go false true c l e = let same : refusal ShortRoom ≡ r = cc e in subst Small same (alone ShortRoom refl)
       go false false c l e = absurd (refused_not_accepted (sym e))
 
 -- ---- what is answered of a graph

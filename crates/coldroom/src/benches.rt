@@ -41,7 +41,6 @@ pub extern "C" fn coldroom_step(
 }
 
 // A list of steps, with an answer place for each.
-#[tactic(auto, using(crate::proofs::Small::run_small))]
 #[unsafe(no_mangle)]
 pub extern "C" fn coldroom_run(
     nodes: usize,

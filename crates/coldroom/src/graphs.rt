@@ -19,7 +19,6 @@ use nodes::{Node, Set};
 use waits::{Refusal, check};
 
 // Whether the graph is accepted.
-#[tactic(auto, using(waits::proofs::Small::check_small))]
 #[unsafe(no_mangle)]
 pub extern "C" fn coldroom_check(nodes: usize, rows: &[u64]) -> u64
     ensures { result ≡ checked_number (check_of nodes rows.now) }
@@ -85,7 +84,7 @@ pub extern "C" fn coldroom_write_evidence(
 }
 
 // Whether a list passes as evidence for a node; and if it doesn't, why.
-#[tactic(auto, using(crate::proofs::Small::judged_small, crate::proofs::Small::member_few))]
+#[tactic(auto, using(crate::proofs::Small::member_few))]
 #[unsafe(no_mangle)]
 pub extern "C" fn coldroom_check_evidence(
     nodes: usize,
