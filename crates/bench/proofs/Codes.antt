@@ -5,9 +5,10 @@ use Prim.Native.Nat.{ℕ, ◌+◌, ◌≤◌}
 use native.Mathlib.Omega.{arith}
 use lib.Dec.{ltb}
 use lib.ListN.{length}
+use Rattle.std.specs.Prelude.{Result, Err}
+use Rattle.waits.specs.declared.numbers.Refusal.{Refusal}
 use Rattle.waits.specs.Waits.{Waits}
 use Rattle.step.specs.declared.answers.Answer.{Answer}
-use Rattle.step.specs.declared.answers.Answer.TheVariants.{Refused}
 use Rattle.step.specs.Answers.{code_of}
 use Rattle.step.specs.Step.{Outcome, seen_in, open_round}
 use Rattle.step.specs.Letters.{letters_of}
@@ -19,7 +20,7 @@ use Rattle.bench.specs.Steps.{refuse, join, arrive_at, take_step}
 use Rattle.bench.proofs.Ways.{Way, step_way}
 use Rattle.bench.proofs.Ways.Way.{refused, opened, arrived}
 
-module _ (P : Answer → Type 0) (p : Plain P) (no : (number : ℕ) → 9 ≤ number → number ≤ 12 → P (Refused (refusal number))) (w : Waits) (b : Bench) where
+module _ (P : Result Answer Refusal → Type 0) (p : Plain P) (no : (number : ℕ) → 9 ≤ number → number ≤ 12 → P (Err (refusal number))) (w : Waits) (b : Bench) where
   join_answer : (highest i : ℕ) (out : Outcome) → P out.answer → P (join b highest i out).answer
   unfolding join
   join_answer highest i out h = go (ltb (room b) (b.sent + length (letters_of i out.state.round out.sends))) _
@@ -37,7 +38,7 @@ module _ (P : Answer → Type 0) (p : Plain P) (no : (number : ℕ) → 9 ≤ nu
   pub step_answer : (s : Step) → P (take_step w b s).answer
   step_answer s = way_answer (step_way w b s)
 
-abbrev Few : Answer → Type 0
+abbrev Few : Result Answer Refusal → Type 0
 Few a = code_of a ≤ 122
 
 few : Plain Few

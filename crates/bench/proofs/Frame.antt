@@ -6,6 +6,8 @@ use native.Mathlib.Omega.{arith}
 use borrow.Author.Tests.{le-ltb}
 use Rattle.lemmas.proofs.Cases.{at_false}
 use Rattle.nodes.specs.Sets.{members_from, members}
+use Rattle.std.specs.Prelude.{Result}
+use Rattle.waits.specs.declared.numbers.Refusal.{Refusal}
 use Rattle.step.specs.declared.answers.Answer.{Answer}
 use Rattle.step.specs.Step.{still}
 use Rattle.step.specs.Letters.{letters_of}
@@ -15,7 +17,7 @@ use Rattle.bench.specs.Bench.{Bench, bench, after, room}
 use Rattle.bench.specs.Steps.{refuse, join}
 
 -- Theorem: an old, stray or repeated message changes nothing at all, and so always fits the room.
-pub still_joins : (b : Bench) (i : ℕ) (a : Answer) → b.sent ≤ room b → join b b.highest i (still (state_at b.records i) a) ≡ after b a
+pub still_joins : (b : Bench) (i : ℕ) (a : Result Answer Refusal) → b.sent ≤ room b → join b b.highest i (still (state_at b.records i) a) ≡ after b a
 unfolding join letters_of members members_from
 still_joins b i a h =
     let none : b.sent + 0 ≡ b.sent = add-zero b.sent in

@@ -27,6 +27,8 @@ use Rattle.records.specs.Messages.{Letter, kinds, kind_number, letter_of, strang
 use Rattle.records.specs.Records.{State, in_round, strange_record}
 use Rattle.records.proofs.Higher.{not_ahead_itself, not_ahead_later, round_range, in_round_exists, in_round_not_ahead}
 use Rattle.records.proofs.Among.{Among, record_among, among_record}
+use Rattle.std.specs.Prelude.{Result, Ok}
+use Rattle.waits.specs.declared.numbers.Refusal.{Refusal}
 use Rattle.waits.specs.Rows.{waits_of}
 use Rattle.step.specs.declared.answers.Answer.{Answer}
 use Rattle.step.specs.Step.{Receivers, Outcome, still, seen_in, open_round, receive}
@@ -248,7 +250,7 @@ module _ (n : ℕ) (rows : List ℕ) (b : Bench) (s : Sound n rows b) where
         )
 
     -- nothing is sent
-    still_fine : (a : Answer) → Fine (still was a)
+    still_fine : (a : Result Answer Refusal) → Fine (still was a)
     unfolding strange_messages letters_of members members_from
     still_fine a = (s.kept m.to.0 to_there, refl, nobody_among n)
 
@@ -256,7 +258,7 @@ module _ (n : ℕ) (rows : List ℕ) (b : Bench) (s : Sound n rows b) where
     arrived_fine = elim (receive_among n (seen_in (waits_of n rows) m.to.0) (out_among n rows b s m.to.0 to_there) (ins_among n rows b s m.to.0)
         was (letter_of m) was_among.1 from_there) [
           | inl w ↦ taken_fine w
-          | inr t ↦ subst Fine (sym t.1) (still_fine t.0)
+          | inr t ↦ subst Fine (sym t.1) (still_fine (Ok t.0))
         ]
 
     arrive_sound : Sound n rows (arrive_at (waits_of n rows) b (letter_of m)).bench

@@ -4,15 +4,13 @@ use mathlib.Core.Bool.{Bool, true, false}
 use mathlib.Core.List.{List, map}
 use Prim.Native.Nat.{ℕ, ◌+◌, ◌*◌, ◌≤◌, ◌<◌}
 use native.Mathlib.Omega.{arith}
-use lib.Dec.{ltb}
 use lib.ListN.{length, get_or, take}
-use lib.Seq.{sets, get_or-take, length-take-le}
+use lib.Seq.{sets, length-take-le}
 use borrow.Author.Tests.{lt-ltb, le-ltb}
 use Rattle.lemmas.specs.Lists.{any_below}
 use Rattle.lemmas.proofs.Cases.{at_true, at_false}
-use Rattle.lemmas.proofs.Any.{AnyLeft, any_passed, any_found, any_ended, below_next, some_below}
+use Rattle.lemmas.proofs.Any.{below_next, some_below}
 use Rattle.lemmas.proofs.Tests.{or_left_false}
-use Rattle.nodes.specs.declared.Round.{Round}
 use Rattle.nodes.specs.Sets.{Inside, below}
 use Rattle.nodes.specs.Words.{places}
 use Rattle.nodes.proofs.Operations.{in_below}
@@ -25,9 +23,9 @@ use Rattle.records.specs.Messages.{Letter, letter_of}
 use Rattle.records.specs.Records.{Fitting, state_of}
 use Rattle.records.proofs.Fits.{record_fits}
 use Rattle.records.proofs.Among.{record_among}
-use Rattle.waits.specs.declared.numbers.Checked.{Checked}
-use Rattle.waits.specs.declared.numbers.Checked.TheVariants.{Refused}
-use Rattle.waits.specs.Waits.{Waits}
+use Rattle.std.specs.Prelude.{Result, Err}
+use Rattle.std.specs.Result.{is_err}
+use Rattle.waits.specs.declared.numbers.Refusal.{Refusal}
 use Rattle.waits.specs.Rows.{waits_of, Shaped}
 use Rattle.waits.specs.Numbers.{check_of}
 use Rattle.waits.proofs.Table.{accepted_shaped}
@@ -39,12 +37,10 @@ use Rattle.step.proofs.Among.{ToAmong}
 use Rattle.step.proofs.Letters.{letters_count}
 use Rattle.lent.specs.Kept.{record_size, record_at, state_at, put_state}
 use Rattle.lent.specs.Coded.{message_of, number_of}
-use Rattle.bench.specs.declared.steps.Reply.{Reply}
-use Rattle.bench.specs.Bench.{Bench, After, bench, after, refusal, room_of, most_room}
-use Rattle.bench.specs.Strange.{is_refused, strange_record_on, strange_message_on, strange_records, strange_messages, Good}
-use Rattle.bench.specs.Steps.{refuse, join, arrive_at}
-use Rattle.bench.specs.Runs.{run, refuse_all}
-use Rattle.bench.specs.Replies.{refused}
+use Rattle.step.specs.declared.answers.Answer.{Answer}
+use Rattle.bench.specs.Bench.{Bench, bench, after, refusal, room_of, most_room}
+use Rattle.bench.specs.Strange.{strange_record_on, strange_message_on, strange_records, Good}
+use Rattle.bench.specs.Steps.{join}
 use Rattle.bench.proofs.Sound.{Sound, is_accepted, good_sound, shaped, room_le, few_sent, record_there, sent_fine}
 use Rattle.bench.proofs.Keeping.{opened_fine, from_there, to_there, was_record, arrived_fine}
 
@@ -68,89 +64,42 @@ pub records_passed : (n highest : ℕ) (records : List ℕ) {i : ℕ} → i ≡ 
 unfolding strange_records
 records_passed n highest records e h = sym (rw e at h)
 
--- ---- a walk over the messages sent
-module _ (n highest sent : ℕ) (messages : List ℕ) (room : sent ≤ length messages) (k : ℕ) where
-  abbrev strange : ℕ → Bool
-  strange x = strange_message_on n highest (message_of x)
-
-  abbrev pub SentLeft : Type 0
-  SentLeft = AnyLeft strange (take sent messages) k
-
-  long : length (take sent messages) ≡ sent
-  long = length-take-le sent messages room
-
-  asked : {m : Message} {r b : Bool} → k < sent → m ≡ message_of (get_or messages k 0) → r ≡ strange_message_on n highest m → r ≡ b
-      → strange (get_or (take sent messages) k 0) ≡ b
-  asked h e f g = ap strange (get_or-take sent messages k 0 h) ∙ sym (f ∙ ap (strange_message_on n highest) e) ∙ g
-
-  module _ (left : SentLeft) where
-    pub message_found : {m : Message} {r : Bool} → k < sent → m ≡ message_of (get_or messages k 0) → r ≡ strange_message_on n highest m → r ≡ true
-        → true ≡ strange_messages n highest (take sent messages)
-    unfolding strange_messages
-    message_found h e f g = any_found strange (take sent messages) k left (omega (arith, long)) (asked h e f g)
-
-    pub message_passed : {m : Message} {r : Bool} → k < sent → m ≡ message_of (get_or messages k 0) → r ≡ strange_message_on n highest m → r ≡ false
-        → AnyLeft strange (take sent messages) (k + 1)
-    message_passed h e f g = any_passed strange (take sent messages) k left (omega (arith, long)) (asked h e f g)
-
-    pub messages_passed : sent ≤ k → false ≡ strange_messages n highest (take sent messages)
-    unfolding strange_messages
-    messages_passed h = any_ended strange (take sent messages) k left (omega (arith, long))
-
 -- ---- the graph, and the room
-pub graph_shaped : (n : ℕ) (rows : List ℕ) {r : Bool} → r ≡ is_refused (check_of n rows) → r ≡ false → Shaped n rows
-graph_shaped n rows e f = accepted_shaped n rows (is_accepted _ (sym e ∙ f))
+pub graph_shaped : (n : ℕ) (rows : List ℕ) {x : Result Unit Refusal} {r : Bool} → x ≡ check_of n rows → r ≡ is_err x → r ≡ false → Shaped n rows
+graph_shaped n rows e f g = accepted_shaped n rows (is_accepted _ (sym (f ∙ ap is_err e) ∙ g))
 
-pub over_room : (lent sent : ℕ) {x : ℕ} → x ≡ room_of lent → x < sent → ltb (room_of lent) sent ≡ true
-over_room lent sent e h = lt-ltb (room_of lent) sent (omega (arith, e))
-
-pub in_room : (lent sent : ℕ) {x : ℕ} → x ≡ room_of lent → sent ≤ x → ltb (room_of lent) sent ≡ false
-in_room lent sent e h = le-ltb (room_of lent) sent (omega (arith, e))
-
-pub in_list : (lent sent : ℕ) {x : ℕ} → x ≡ room_of lent → sent ≤ x → sent ≤ lent
-in_list lent sent e h = omega (arith, e, room_le lent)
+pub in_list : (messages : List ℕ) (sent : ℕ) {x : ℕ} → x ≡ room_of (length messages) → sent ≤ x → sent ≡ length (take sent messages)
+in_list messages sent e h = sym (length-take-le sent messages (omega (arith, e, room_le (length messages))))
 
 pub has_room : (lent sent new : ℕ) {x y : ℕ} → x ≡ room_of lent → y ≡ new → sent + y ≤ x → sent + new ≤ lent
 has_room lent sent new e f h = omega (arith, e, f, room_le lent)
 
--- ---- a refusal leaves everything as it was
-pub refused_as : (number sent : ℕ) (highest : Round) (records messages : List ℕ) {r : Reply} → r ≡ refused number sent highest
-    → after (bench records messages r.sent r.highest.0) r.answer ≡ refuse number (bench records messages sent highest.0)
-refused_as number sent highest records messages e = ap (λ (x : Reply). after (bench records messages x.sent x.highest.0) x.answer) e
-
 -- ---- what a node did joins, or doesn't fit
-module _ (records messages : List ℕ) (sent : ℕ) (highest : Round) (next i : ℕ) (out : Outcome) {x y : ℕ}
-    (room : x ≡ room_of (length messages)) (new : y ≡ how_many out.sends) where
-  count : sent + y ≡ sent + length (letters_of i out.state.round out.sends)
-  count = ap (λ (k : ℕ). sent + k) (new ∙ sym (letters_count i out.state.round out.sends))
+module _ (b : Bench) (next i : ℕ) (out : Outcome) {x y : ℕ} (room : x ≡ room_of (length b.messages)) (new : y ≡ how_many out.sends) where
+  count : b.sent + y ≡ b.sent + length (letters_of i out.state.round out.sends)
+  count = ap (λ (k : ℕ). b.sent + k) (new ∙ sym (letters_count i out.state.round out.sends))
 
-  pub join_over : {r : Reply} → x < sent + y → r ≡ refused 12 sent highest
-      → after (bench records messages r.sent r.highest.0) r.answer ≡ join (bench records messages sent highest.0) next i out
+  pub join_over : {r : Result Answer Refusal} → x < b.sent + y → r ≡ Err (refusal 12) → after b r ≡ join b next i out
   unfolding join
-  join_over h e = at_true _ (lt-ltb (room_of (length messages)) (sent + length (letters_of i out.state.round out.sends)) (omega (arith, room, count))) (refused_as 12 sent highest records messages e)
+  join_over h e = at_true _ (lt-ltb (room_of (length b.messages)) (b.sent + length (letters_of i out.state.round out.sends)) (omega (arith, room, count))) (ap (after b) e)
 
-  pub join_fits : {records' messages' : List ℕ} {sent' : ℕ} → sent + y ≤ x → records' ≡ put_state records i out.state
-      → (sent' ≡ sent + how_many out.sends) × (messages' ≡ sets messages sent (map number_of (letters_of i out.state.round out.sends)))
-      → after (bench records' messages' sent' next) out.answer ≡ join (bench records messages sent highest.0) next i out
+  pub join_fits : {records messages : List ℕ} {sent : ℕ} → b.sent + y ≤ x → records ≡ put_state b.records i out.state
+      → (sent ≡ b.sent + how_many out.sends) × (messages ≡ sets b.messages b.sent (map number_of (letters_of i out.state.round out.sends)))
+      → after (bench records messages sent next) out.answer ≡ join b next i out
   unfolding join
   join_fits h e f =
-      at_false _ (le-ltb (room_of (length messages)) (sent + length (letters_of i out.state.round out.sends)) (omega (arith, room, count)))
-      (λ k. after (bench (e k) (f.1 k) ((f.0 ∙ ap (λ (z : ℕ). sent + z) (sym (letters_count i out.state.round out.sends))) k) next) out.answer)
+      at_false _ (le-ltb (room_of (length b.messages)) (b.sent + length (letters_of i out.state.round out.sends)) (omega (arith, room, count)))
+      (λ k. after (bench (e k) (f.1 k) ((f.0 ∙ ap (λ (z : ℕ). b.sent + z) (sym (letters_count i out.state.round out.sends))) k) next) out.answer)
 
--- ---- what a node does with its record in the list, and with message k
+-- ---- what a node does with its record in the list
 pub arrived_as : (records : List ℕ) (i : ℕ) (m : Letter) {o p : Seen} {r : Record} {x : Outcome} → x ≡ receive o (state_of r) m → o ≡ p → r ≡ record_at records i
     → x ≡ receive p (state_at records i) m
 unfolding state_at
 arrived_as records i m e f g = received_as m e f (ap state_of g)
 
-pub delivered_as : (w : Waits) (b : Bench) (k : ℕ) {m : Message} {x : After} → x ≡ arrive_at w b (letter_of m) → m ≡ message_of (get_or b.messages k 0)
-    → x ≡ arrive_at w b (letter_of (message_of (get_or b.messages k 0)))
-delivered_as w b k e f = e ∙ ap (λ (m : Message). arrive_at w b (letter_of m)) f
-
--- ---- a list that is refused as a whole
-pub all_refused : (number : ℕ) (b : Bench) (answers : List ℕ) {x : Checked} → x ≡ Refused (refusal number)
-    → run b answers x ≡ refuse_all number b answers
-all_refused number b answers e = ap (run b answers) e
+-- ---- rows that a good state stands on
+pub good_shaped : (n : ℕ) (rows : List ℕ) (b : Bench) → Good n rows b → Shaped n rows
+good_shaped n rows b good = shaped n rows b (good_sound n rows b good)
 
 -- ---- what joining asks for
 abbrev pub Joins : List ℕ → ℕ → ℕ → Outcome → Type 0

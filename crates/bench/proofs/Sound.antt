@@ -12,8 +12,8 @@ use Rattle.lemmas.proofs.Tests.{or_left_false, or_right_false}
 use Rattle.lemmas.proofs.Any.{none_at, none_below, all_below}
 use Rattle.nodes.specs.Sets.{Inside, below}
 use Rattle.records.specs.Rounds.{last_round}
-use Rattle.waits.specs.declared.numbers.Checked.{Checked}
-use Rattle.waits.specs.declared.numbers.Checked.TheVariants.{Accepted, Refused}
+use Rattle.std.specs.Prelude.{Result, Ok, Err}
+use Rattle.waits.specs.declared.numbers.Refusal.{Refusal}
 use Rattle.waits.specs.Rows.{waits_of, Shaped}
 use Rattle.waits.specs.Numbers.{check_of}
 use Rattle.waits.proofs.Table.{accepted_shaped}
@@ -26,16 +26,16 @@ use Rattle.bench.specs.Bench.{Bench, room, room_of, most_room}
 use Rattle.bench.specs.Strange.{is_refused, strange_record_on, strange_message_on, strange_records, strange_messages, strange_bench, Good}
 
 pub record Sound (n : ℕ) (rows : List ℕ) (b : Bench) : Type 0 where
-  pub accepted : check_of n rows ≡ Accepted
+  pub accepted : check_of n rows ≡ Ok tt
   pub each : length b.records ≡ n * record_size
   pub within : b.sent ≤ room b
   pub last : b.highest ≤ last_round
   pub kept : (i : ℕ) → i < n → strange_record_on n b.highest (state_at b.records i) ≡ false
   pub listed : strange_messages n b.highest (take b.sent b.messages) ≡ false
 
-pub is_accepted : (c : Checked) → is_refused c ≡ false → c ≡ Accepted
-is_accepted Accepted e = refl
-is_accepted (Refused r) e = absurd (true≢false e)
+pub is_accepted : (c : Result Unit Refusal) → is_refused c ≡ false → c ≡ Ok tt
+is_accepted (Ok t) e = refl
+is_accepted (Err r) e = absurd (true≢false e)
 
 module _ (n : ℕ) (rows : List ℕ) (b : Bench) where
   pub good_sound : Good n rows b → Sound n rows b

@@ -5,11 +5,12 @@ use mathlib.Core.List.{List, [], ◌∷◌}
 use Prim.Native.Nat.{ℕ, suc, ◌+◌, ◌≤◌, ◌<◌}
 use native.Mathlib.Numerals.{add-one}
 use native.Mathlib.Omega.{arith}
-use lib.ListN.{length, get_or, drop, set, length-set, drop_of_length-le}
+use lib.ListN.{length, get_or, drop, set, length-set}
 use lib.Seq.{sets, drop-cons}
 use borrow.Author.Tests.{le-ltb}
 use Rattle.lemmas.proofs.Cases.{at_true, at_false}
-use Rattle.waits.specs.declared.numbers.Checked.TheVariants.{Accepted}
+use Rattle.std.specs.Prelude.{Result, Ok}
+use Rattle.waits.specs.declared.numbers.Refusal.{Refusal}
 use Rattle.waits.specs.Rows.{waits_of}
 use Rattle.step.specs.declared.answers.Answer.{Answer}
 use Rattle.step.specs.Answers.{code_of}
@@ -27,18 +28,12 @@ use Rattle.bench.proofs.Codes.{answer_few}
 pub record Turn (n : ℕ) (rows steps : List ℕ) (start : Bench) (found : List ℕ) (b : Bench) (answers : List ℕ) (j : ℕ) : Type 0 where
   pub good : Good n rows b
   pub below : j ≤ length steps
-  pub long_records : length b.records ≡ length start.records
-  pub long_messages : length b.messages ≡ length start.messages
   pub long : length answers ≡ length found
   pub bench : run_on n rows b (drop j steps) ≡ run_on n rows start steps
   pub list : sets answers j (answers_on n rows b (drop j steps)) ≡ sets found 0 (answers_on n rows start steps)
 
-pub turn_first : (n : ℕ) (rows steps : List ℕ) (start : Bench) (found : List ℕ) → Good n rows start → Turn n rows steps start found start found 0
-turn_first n rows steps start found good =
-    record { good = good; below = omega arith; long_records = refl; long_messages = refl; long = refl; bench = refl; list = refl }
-
 module _ (n : ℕ) (rows steps : List ℕ) (start : Bench) (found : List ℕ) (b : Bench) (answers : List ℕ) (j : ℕ) (t : Turn n rows steps start found b answers j) where
-  module _ {s : Step} {b' : Bench} {answer : Answer} (asked : s ≡ step_of (get_or steps j 0)) (took : after b' answer ≡ take_step (waits_of n rows) b s) where
+  module _ {s : Step} {b' : Bench} {answer : Result Answer Refusal} (asked : s ≡ step_of (get_or steps j 0)) (took : after b' answer ≡ take_step (waits_of n rows) b s) where
     -- the step by itself
     alone : after b' answer ≡ step_on n rows b (step_of (get_or steps j 0))
     alone = took ∙ ap (take_step (waits_of n rows) b) asked ∙ step_taken n rows b t.good (step_of (get_or steps j 0))
@@ -52,30 +47,21 @@ module _ (n : ℕ) (rows steps : List ℕ) (start : Bench) (found : List ℕ) (b
         let few : code_of answer ≤ 122 = subst (λ (x : After). code_of x.answer ≤ 122) (sym took) (answer_few (waits_of n rows) b s) in
         (omega (arith, few_sent n rows b' (good_sound n rows b' next_good)), omega arith)
 
-    pub turn_next : {answers' : List ℕ} {x : ℕ} → j < length steps → length b'.records ≡ length b.records → length b'.messages ≡ length b.messages
-        → x ≡ answer_number b'.sent answer → answers' ≡ set answers j x → Turn n rows steps start found b' answers' (j + 1)
-    turn_next {answers'} {x} h r m e f =
+    pub turn_next : {answers' : List ℕ} {x : ℕ} → j < length steps → x ≡ answer_number b'.sent answer → answers' ≡ set answers j x
+        → Turn n rows steps start found b' answers' (j + 1)
+    turn_next {answers'} {x} h e f =
         let cut = drop-cons steps j 0 h in
         let here : x ≡ said (step_on n rows b (step_of (get_or steps j 0))) = e ∙ ap said alone in
         let rest : drop (j + 1) steps ≡ drop (suc j) steps = ap (λ (k : ℕ). drop k steps) (add-one j) in
         record {
           good = next_good;
           below = omega arith;
-          long_records = r ∙ t.long_records;
-          long_messages = m ∙ t.long_messages;
           long = ap length f ∙ length-set answers j x ∙ t.long;
           bench = ap₂ (λ (a : After) (l : List ℕ). run_on n rows a.bench l) alone rest ∙ sym (ap (run_on n rows b) cut) ∙ t.bench;
           list =
               (λ i. sets ((f ∙ ap (set answers j) here) i) (add-one j i) (answers_on n rows (alone i).bench (rest i)))
               ∙ sym (ap (λ (l : List ℕ). sets answers j (answers_on n rows b l)) cut) ∙ t.list;
         }
-
-  pub turns_ended : length steps ≤ j → run b answers Accepted ≡ run (run_on n rows start steps) (sets found 0 (answers_on n rows start steps)) Accepted
-  turns_ended h =
-      let none : drop j steps ≡ [] = drop_of_length-le steps h in
-      ap₂ (λ (x : Bench) (l : List ℕ). run x l Accepted)
-      (sym (ap (run_on n rows b) none) ∙ t.bench)
-      (sym (ap (λ (l : List ℕ). sets answers j (answers_on n rows b l)) none) ∙ t.list)
 
 -- ---- the whole list
 module _ (n : ℕ) (rows : List ℕ) where
@@ -96,6 +82,6 @@ module _ (n : ℕ) (rows : List ℕ) (b : Bench) (steps answers : List ℕ) wher
   unfolding run_of
   run_refused e = sym (at_true _ e refl)
 
-  pub run_taken : Good n rows b → length steps ≤ length answers → run_of n rows b steps answers ≡ run (run_on n rows b steps) (sets answers 0 (answers_on n rows b steps)) Accepted
+  pub run_taken : Good n rows b → length steps ≤ length answers → run_of n rows b steps answers ≡ run (run_on n rows b steps) (sets answers 0 (answers_on n rows b steps)) (Ok tt)
   unfolding run_of
   run_taken e h = sym (at_false (refuse_all 13 b answers) e (at_false (refuse_all 15 b answers) (le-ltb (length answers) (length steps) h) refl))

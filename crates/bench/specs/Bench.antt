@@ -1,5 +1,5 @@
 -- The state of a bench, as it stands in lent lists of numbers. Assumes nothing.
-use Rattle.std.specs.Prelude.{List, ℕ, ◌*◌, min, length, replicate}
+use Rattle.std.specs.Prelude.{List, ℕ, ◌*◌, min, length, replicate, Result}
 use Rattle.waits.specs.declared.numbers.Refusal.{Refusal}
 use Rattle.step.specs.declared.answers.Answer.{Answer}
 use Rattle.lent.specs.Kept.{record_size}
@@ -38,7 +38,7 @@ refusal number = record { number = number; row = record { 0 = 0 } }
 -- A step leaves a bench, and answers.
 pub record After : Type 0 where
   pub bench : Bench
-  pub answer : Answer
+  pub answer : Result Answer Refusal
 
-abbrev pub after : Bench → Answer → After
+abbrev pub after : Bench → Result Answer Refusal → After
 after b answer = record { bench = b; answer = answer }

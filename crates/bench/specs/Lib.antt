@@ -4,3 +4,4 @@ pub mod Strange
 pub mod Steps
 pub mod Runs
 pub mod Replies
+pub mod AtWork

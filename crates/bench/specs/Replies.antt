@@ -1,10 +1,9 @@
 -- What the calls of the code hand back, besides the lent lists. Assumes nothing.
-use Rattle.std.specs.Prelude.{ℕ}
+use Rattle.std.specs.Prelude.{ℕ, Err}
 use Rattle.nodes.specs.declared.Round.{Round}
-use Rattle.step.specs.declared.answers.Answer.TheVariants.{Refused}
 use Rattle.bench.specs.declared.steps.Reply.{Reply}
 use Rattle.bench.specs.Bench.{refusal}
 
 -- a refusal hands back the count and the highest round as they were
 abbrev pub refused : ℕ → ℕ → Round → Reply
-refused number sent highest = record { sent = sent; highest = highest; answer = Refused (refusal number) }
+refused number sent highest = record { sent = sent; highest = highest; answer = Err (refusal number) }

@@ -1,8 +1,7 @@
 -- A list of steps: its steps taken singly, one after the other. Assumes nothing.
-use Rattle.std.specs.Prelude.{cond, List, [], ◌∷◌, ℕ, ltb, length}
+use Rattle.std.specs.Prelude.{cond, List, [], ◌∷◌, ℕ, ltb, length, Result, Ok, Err}
 use Rattle.std.proofs.lemmas.List.Edits.{sets}
-use Rattle.waits.specs.declared.numbers.Checked.{Checked}
-use Rattle.waits.specs.declared.numbers.Checked.TheVariants.{Accepted, Refused}
+use Rattle.waits.specs.declared.numbers.Refusal.{Refusal}
 use Rattle.lent.specs.Steps.{step_of, answer_number}
 use Rattle.bench.specs.Bench.{Bench, After, refusal}
 use Rattle.bench.specs.Strange.{strange_bench}
@@ -25,18 +24,18 @@ answers_on n rows b (x ∷ xs) = said (step_on n rows b (step_of x)) ∷ answers
 pub record Run : Type 0 where
   pub bench : Bench
   pub answers : List ℕ
-  pub checked : Checked
+  pub checked : Result Unit Refusal
 
-abbrev pub run : Bench → List ℕ → Checked → Run
+abbrev pub run : Bench → List ℕ → Result Unit Refusal → Run
 run b answers checked = record { bench = b; answers = answers; checked = checked }
 
 -- a list that is refused as a whole touches nothing
 abbrev pub refuse_all : ℕ → Bench → List ℕ → Run
-refuse_all number b answers = run b answers (Refused (refusal number))
+refuse_all number b answers = run b answers (Err (refusal number))
 
 -- 13, then 15 if there are fewer answer places than steps; then an answer to each step, the places after them as found
 unfoldable pub run_of : ℕ → List ℕ → Bench → List ℕ → List ℕ → Run
 run_of n rows b steps answers =
     cond (strange_bench n rows b) (refuse_all 13 b answers)
     (cond (ltb (length answers) (length steps)) (refuse_all 15 b answers)
-    (run (run_on n rows b steps) (sets answers 0 (answers_on n rows b steps)) Accepted))
+    (run (run_on n rows b steps) (sets answers 0 (answers_on n rows b steps)) (Ok tt)))

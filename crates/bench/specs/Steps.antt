@@ -1,12 +1,11 @@
 -- One step of a bench: a round is opened, a message is delivered, or neither. Assumes nothing.
-use Rattle.std.specs.Prelude.{cond, List, map, ℕ, ◌+◌, eqb, leb, ltb, length, get_or}
+use Rattle.std.specs.Prelude.{cond, List, map, ℕ, ◌+◌, eqb, leb, ltb, length, get_or, Err}
 use Rattle.std.proofs.lemmas.List.Edits.{sets}
 use Rattle.nodes.specs.Sets.{no_node}
 use Rattle.records.specs.Rounds.{cannot_open}
 use Rattle.records.specs.Messages.{Letter, letter_of}
 use Rattle.waits.specs.Waits.{Waits}
 use Rattle.waits.specs.Rows.{waits_of}
-use Rattle.step.specs.declared.answers.Answer.TheVariants.{Refused}
 use Rattle.step.specs.Step.{Outcome, seen_in, open_round, receive}
 use Rattle.step.specs.Letters.{letters_of}
 use Rattle.lent.specs.declared.steps.Step.{Step}
@@ -17,7 +16,7 @@ use Rattle.bench.specs.Strange.{strange_bench}
 
 -- a refused step changes nothing
 abbrev pub refuse : ℕ → Bench → After
-refuse number b = after b (Refused (refusal number))
+refuse number b = after b (Err (refusal number))
 
 -- What node i did joins the bench: its record, and its messages after all those sent so far. 12 if these don't fit the room.
 unfoldable pub join : Bench → ℕ → ℕ → Outcome → After

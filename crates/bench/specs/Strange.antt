@@ -1,21 +1,20 @@
 -- 13: when the state of a bench is refused. Assumes nothing.
-use Rattle.std.specs.Prelude.{◌≡◌, Bool, true, false, not, ◌||◌, List, ℕ, ◌*◌, eqb, ltb, length, take}
+use Rattle.std.specs.Prelude.{◌≡◌, Bool, false, not, ◌||◌, List, ℕ, ◌*◌, eqb, ltb, length, take, Result}
+use Rattle.std.specs.Result.{is_err}
 use Rattle.lemmas.specs.Lists.{any_of, any_below}
 use Rattle.records.specs.declared.messages.Message.{Message}
 use Rattle.records.specs.Rounds.{last_round, ahead}
 use Rattle.records.specs.Messages.{strange_message}
 use Rattle.records.specs.Records.{State, strange_record}
-use Rattle.waits.specs.declared.numbers.Checked.{Checked}
-use Rattle.waits.specs.declared.numbers.Checked.TheVariants.{Accepted, Refused}
+use Rattle.waits.specs.declared.numbers.Refusal.{Refusal}
 use Rattle.waits.specs.Numbers.{check_of}
 use Rattle.lent.specs.Kept.{record_size, state_at}
 use Rattle.lent.specs.Coded.{message_of}
 use Rattle.bench.specs.Bench.{Bench, room}
 
 -- the graph isn't accepted
-abbrev pub is_refused : Checked → Bool
-is_refused Accepted = false
-is_refused (Refused r) = true
+abbrev pub is_refused : Result Unit Refusal → Bool
+is_refused c = is_err c
 
 -- a record with something that doesn't exist, or with a round above the highest opened
 unfoldable pub strange_record_on : ℕ → ℕ → State → Bool

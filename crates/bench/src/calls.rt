@@ -1,27 +1,28 @@
 // The two calls of a bench, for every input: a step by itself, and a list of steps.
-ghost use Rattle.std.specs.Prelude.{◌≡◌, ◌≤◌, length};
+ghost use Rattle.std.specs.Prelude.{◌≡◌, ◌≤◌, length, Ok};
 ghost use Rattle.std.proofs.lemmas.List.Edits.{sets};
 ghost use Rattle.bench.specs.Bench.{bench, after};
-ghost use Rattle.bench.specs.Strange.{Good};
+ghost use Rattle.bench.specs.AtWork.{state_at_work, GoodAtWork, SameLists};
 ghost use Rattle.bench.specs.Steps.{step_on};
 ghost use Rattle.bench.specs.Runs.{run_on, answers_on, run_of};
 ghost use Rattle.bench.specs.Runs.{run as the_run};
 
 use crate::checks::strange_bench;
-use crate::steps::{Reply, refuse, take_step};
+use crate::steps::{AtWork, Reply, refuse};
 use lent::{Step, answer_number, step_of};
 use nodes::{Node, Round};
-use waits::{Checked, refused};
+use waits::{Graph, Refusal, refused};
 
 // How many messages are sent now, the highest round opened, and whether the list was refused as a whole.
-#[derive(Clone, Copy)]
+#[derive(Clone, Copy, Debug, PartialEq, Eq)]
 pub struct Ran {
     pub sent: usize,
     pub highest: Round,
-    pub checked: Checked,
+    pub checked: Result<(), Refusal>,
 }
 
 // One step by itself.
+#[tactic(auto, unfolding(crate::specs::Steps::step_on), using(crate::proofs::Made::good_shaped))]
 pub fn step(
     nodes: usize,
     rows: &[u64],
@@ -34,46 +35,42 @@ pub fn step(
     ensures { after (bench records.new messages.new result.sent result.highest.0) result.answer ≡ step_on nodes rows.now (bench records.old messages.old sent highest.0) s }
 {
     if strange_bench(nodes, rows, records, messages, sent, highest) {
-        return refuse(13, sent, highest);
+        return Reply {
+            sent,
+            highest,
+            answer: refuse(13),
+        };
     }
-    take_step(nodes, rows, records, messages, sent, highest, s)
+    let graph = Graph::new(nodes, rows);
+    let mut bench = AtWork {
+        graph,
+        records,
+        messages,
+        sent,
+        highest,
+    };
+    let answer = bench.take_step(s);
+    Reply {
+        sent: bench.sent,
+        highest: bench.highest,
+        answer,
+    }
 }
 
 // The steps of a list, one after the other. The state is good at the start, and steps keep it so.
-fn take_steps(
-    nodes: usize,
-    rows: &[u64],
-    records: &mut [u64],
-    messages: &mut [u64],
-    sent: usize,
-    highest: Round,
-    steps: &[u64],
-    answers: &mut [u64],
-) -> Ran
-    requires { Good nodes rows.now (bench records.old messages.old sent highest.0) × (length steps.now ≤ length answers.old) }
-    ensures { the_run (bench records.new messages.new result.sent result.highest.0) answers.new result.checked ≡ the_run (run_on nodes rows.now (bench records.old messages.old sent highest.0) steps.now) (sets answers.old 0 (answers_on nodes rows.now (bench records.old messages.old sent highest.0) steps.now)) Checked.Accepted }
+fn take_steps(bench: &mut AtWork, steps: &[u64], answers: &mut [u64])
+    requires { GoodAtWork bench.old × (length steps.now ≤ length answers.old) }
+    ensures same_lists { SameLists bench.old bench.new }
+    ensures taken { the_run (state_at_work bench.new) answers.new (Ok tt) ≡ the_run (run_on bench.old.graph.nodes bench.old.graph.rows.now (state_at_work bench.old) steps.now) (sets answers.old 0 (answers_on bench.old.graph.nodes bench.old.graph.rows.now (state_at_work bench.old) steps.now)) (Ok tt) }
 {
-    let mut count = sent;
-    let mut top = highest;
-    let mut j: usize = 0;
-    while j < steps.len() {
-        let s = step_of(steps[j]);
-        let reply = take_step(nodes, rows, records, messages, count, top, s);
-        let answer = reply.answer;
-        let next = reply.highest;
-        count = reply.sent;
-        top = next;
-        answers[j] = answer_number(count, answer);
-        j += 1;
-    }
-    Ran {
-        sent: count,
-        highest: top,
-        checked: Checked::Accepted,
+    for j in 0..steps.len() {
+        let answer = bench.take_step(step_of(steps[j]));
+        answers[j] = answer_number(bench.sent, answer);
     }
 }
 
 // A list of steps, with an answer place for each.
+#[tactic(auto, unfolding(crate::specs::Runs::run_of), using(crate::proofs::Made::good_shaped))]
 pub fn run(
     nodes: usize,
     rows: &[u64],
@@ -88,19 +85,30 @@ pub fn run(
 {
     if strange_bench(nodes, rows, records, messages, sent, highest) {
         return Ran {
-            sent: sent,
-            highest: highest,
+            sent,
+            highest,
             checked: refused(13, Node(0)),
         };
     }
     if answers.len() < steps.len() {
         return Ran {
-            sent: sent,
-            highest: highest,
+            sent,
+            highest,
             checked: refused(15, Node(0)),
         };
     }
-    take_steps(
-        nodes, rows, records, messages, sent, highest, steps, answers,
-    )
+    let graph = Graph::new(nodes, rows);
+    let mut bench = AtWork {
+        graph,
+        records,
+        messages,
+        sent,
+        highest,
+    };
+    take_steps(&mut bench, steps, answers);
+    Ran {
+        sent: bench.sent,
+        highest: bench.highest,
+        checked: Ok(()),
+    }
 }

@@ -10,80 +10,58 @@ ghost use Rattle.waits.specs.Numbers.{check_of};
 use lent::{RECORD, message_of, record_at};
 use nodes::{Node, Round};
 use records::{LAST, Message, Record, ahead, strange_message, strange_record};
-use waits::{Checked, check};
+use waits::check;
 
 // The most messages that a bench holds.
 const MOST: usize = 4_096;
 
 // The room that so many lent places give.
+#[tactic(auto, unfolding(crate::specs::Bench::room_of))]
 pub fn room(lent: usize) -> usize
     ensures { result ≡ room_of lent }
 {
-    if MOST < lent {
-        return MOST;
-    }
-    lent
+    lent.min(MOST)
 }
 
+#[tactic(auto, unfolding(crate::specs::Strange::strange_record_on))]
 fn strange_record_on(nodes: usize, highest: Round, r: Record) -> bool
     requires { nodes ≤ places }
     ensures { result ≡ strange_record_on nodes highest.0 (state_of r) }
 {
-    let round = r.round;
-    if strange_record(nodes, r) {
-        return true;
-    }
-    ahead(round, highest)
+    strange_record(nodes, r) || ahead(r.round, highest)
 }
 
+#[tactic(auto, unfolding(crate::specs::Strange::strange_message_on))]
 fn strange_message_on(nodes: usize, highest: Round, m: Message) -> bool
     ensures { result ≡ strange_message_on nodes highest.0 m }
 {
-    let round = m.round;
-    if strange_message(nodes, m) {
-        return true;
-    }
-    ahead(round, highest)
+    strange_message(nodes, m) || ahead(m.round, highest)
 }
 
 fn strange_records(nodes: usize, records: &[u64], highest: Round) -> bool
     requires { (nodes ≤ places) × (length records.now ≡ nodes * record_size) }
     ensures { result ≡ strange_records nodes highest.0 records.now }
 {
-    let mut i: usize = 0;
-    while i < nodes {
+    for i in 0..nodes {
         if strange_record_on(nodes, highest, record_at(records, Node(i))) {
             return true;
         }
-        i += 1;
     }
     false
 }
 
-fn strange_messages(nodes: usize, messages: &[u64], sent: usize, highest: Round) -> bool
-    requires { sent ≤ length messages.now }
-    ensures { result ≡ strange_messages nodes highest.0 (take sent messages.now) }
+fn strange_messages(nodes: usize, sent: &[u64], highest: Round) -> bool
+    ensures { result ≡ strange_messages nodes highest.0 sent.now }
 {
-    let mut k: usize = 0;
-    while k < sent {
-        if strange_message_on(nodes, highest, message_of(messages[k])) {
+    for &x in sent {
+        if strange_message_on(nodes, highest, message_of(x)) {
             return true;
         }
-        k += 1;
     }
     false
 }
 
-fn graph_refused(nodes: usize, rows: &[u64]) -> bool
-    ensures { result ≡ is_refused (check_of nodes rows.now) }
-{
-    let checked = check(nodes, rows);
-    match checked {
-        Checked::Accepted => false,
-        Checked::Refused(_) => true,
-    }
-}
-
+#[tactic(auto, unfolding(crate::specs::Strange::strange_bench))]
 pub fn strange_bench(
     nodes: usize,
     rows: &[u64],
@@ -94,20 +72,13 @@ pub fn strange_bench(
 ) -> bool
     ensures { result ≡ strange_bench nodes rows.now (bench records.now messages.now sent highest.0) }
 {
-    if graph_refused(nodes, rows) {
+    if check(nodes, rows).is_err() {
         return true;
     }
-    if records.len() != nodes * RECORD {
+    if records.len() != nodes * RECORD || room(messages.len()) < sent {
         return true;
     }
-    if room(messages.len()) < sent {
-        return true;
-    }
-    if LAST < highest.0 {
-        return true;
-    }
-    if strange_records(nodes, records, highest) {
-        return true;
-    }
-    strange_messages(nodes, messages, sent, highest)
+    LAST < highest.0
+        || strange_records(nodes, records, highest)
+        || strange_messages(nodes, &messages[..sent], highest)
 }

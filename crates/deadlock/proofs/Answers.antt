@@ -140,3 +140,6 @@ room_written n rows i found left s k ok e w = (
 -- ---- a list that is offered
 pub list_shaped : (n : ℕ) (rows : List ℕ) (i : ℕ) (l : List ℕ) → check_list_of n rows i l ≡ Ok tt → Shaped n rows × (strange_entry n l ≡ false)
 list_shaped n rows i l ok = let p = list_accepted n rows i l ok in ((node_shaped n rows i p.0).0, p.1)
+
+-- what the ring report cites
+pub ruleset reporting = (node_shaped, not_in_ring, in_ring, behind_ring)

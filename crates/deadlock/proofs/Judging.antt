@@ -25,8 +25,9 @@ use Rattle.deadlock.specs.declared.evidence.Judged.TheVariants.{Passes, ClaimMis
 use Rattle.deadlock.specs.Refusals.{check_list_of}
 use Rattle.deadlock.specs.Evidence.{first_satisfied, judgement, judged, judged_of}
 use Rattle.deadlock.proofs.Passing.{passes_iff}
-use Rattle.deadlock.proofs.Cases.{entries_nodes}
+use Rattle.deadlock.proofs.Cases.{entry_node, entries_nodes}
 use Rattle.deadlock.proofs.Refused.{list_accepted}
+use Rattle.deadlock.proofs.Answers.{list_shaped}
 
 module _ (w : Waits) (g : ℕ) where
   -- ---- a walk that asks one member after another: the answer is that of the members from a place on
@@ -158,3 +159,8 @@ module _ (n : ℕ) (rows : List ℕ) (i : ℕ) (l : List ℕ) where
       let (ok, said) = (judged_said (MemberSatisfied k)).0 e in
       let (before, after, s, h, u) = ((judgement_member (waits_of n rows) i l k).0 said).1 in
       (entries_nodes n l).0 (list_accepted n rows i l ok).1 k.0 (rw s (Memᴰ.append_right before (here refl)))
+
+-- what the walk and the check of a list cite
+pub ruleset first_walk = (first_passed, first_found, first_ended, entry_node)
+
+pub ruleset judging = (judged_refused, judged_as, list_shaped)

@@ -3,7 +3,7 @@ use mathlib.Core.Path.{◌≡◌, sym, ap, ◌∙◌}
 use mathlib.Core.Bool.{true, false, not}
 use mathlib.Core.List.{List, [], ◌∷◌, ◌++◌, append_assoc}
 use Prim.Native.Nat.{ℕ, ◌≤◌, ◌<◌}
-use borrow.Author.Tests.{not-false, leb-false, ltb-false, lt-leb}
+use borrow.Author.Tests.{not-false, leb-false, ltb-false, lt-leb, le-leb, lt-ltb, le-ltb}
 use Rattle.std.specs.Prelude.{Result, Ok, Err}
 use Rattle.lemmas.specs.Lists.{Ascending, ascending}
 use Rattle.lemmas.proofs.Ascending.{test_ascending}
@@ -41,8 +41,20 @@ room_next n rows i room = asked_next n rows i [] (line 15 0 (small_room n room))
 pub node_refused : (n : ℕ) (rows : List ℕ) (i : ℕ) {r : Refusal} → check_of n rows ≡ Err r → Err r ≡ check_node_of n rows i
 node_refused n rows i = refused_before (line 9 0 (no_node n i)) (node_next n rows i)
 
+pub node_strange : (n : ℕ) (rows : List ℕ) (i : ℕ) → check_of n rows ≡ Ok tt → n ≤ i → Err (line 9 0 true).gives ≡ check_node_of n rows i
+unfolding no_node
+node_strange n rows i e h = refused_here (line 9 0 (no_node n i)) (node_next n rows i) e (le-leb n i h)
+
 pub room_refused : (n : ℕ) (rows : List ℕ) (i room : ℕ) {r : Refusal} → check_node_of n rows i ≡ Err r → Err r ≡ check_room_of n rows i room
 room_refused n rows i room = refused_before (line 15 0 (small_room n room)) (room_next n rows i room)
+
+pub room_small : (n : ℕ) (rows : List ℕ) (i room : ℕ) → check_node_of n rows i ≡ Ok tt → room < n → Err (line 15 0 true).gives ≡ check_room_of n rows i room
+unfolding small_room
+room_small n rows i room e h = refused_here (line 15 0 (small_room n room)) (room_next n rows i room) e (lt-ltb room n h)
+
+pub room_fine : (n : ℕ) (rows : List ℕ) (i room : ℕ) → check_node_of n rows i ≡ Ok tt → n ≤ room → check_room_of n rows i room ≡ Ok tt
+unfolding small_room
+room_fine n rows i room e h = sym (not_refused (line 15 0 (small_room n room)) (room_next n rows i room) e (le-ltb room n h))
 
 pub node_fine : (n : ℕ) (rows : List ℕ) (i : ℕ) → check_of n rows ≡ Ok tt → i < n → check_node_of n rows i ≡ Ok tt
 unfolding no_node
@@ -90,3 +102,10 @@ unfolding small_room
 room_accepted n rows i room e =
     let p = next_accepted (line 15 0 (small_room n room)) (room_next n rows i room) e in
     (p.0, ltb-false room n p.1)
+
+-- what the checks of the three questions cite
+pub ruleset node_check = (node_refused, node_strange, node_fine)
+
+pub ruleset list_check = (list_refused, list_strange, list_unordered, list_fine)
+
+pub ruleset room_check = (room_refused, room_small, room_fine)

@@ -123,3 +123,8 @@ module _ (n : ℕ) (visit : ℕ → ℕ → ℕ) (grows : (k g : ℕ) → Inside
   -- Law: after n sweeps a visit changes nothing.
   pub sweeps_settle : (g : ℕ) → Inside g (below n) → (k : ℕ) → k < n → visit k (sweeps visit n n g) ≡ sweeps visit n n g
   sweeps_settle g i = rest_visit visit grows n (sweeps visit n n g) (sweeps_end g i)
+
+-- what a loop over the nodes cites, and one over sweeps
+pub ruleset visiting = (sweep_none, sweep_more, sweep_whole)
+
+pub ruleset sweeping = (sweeps_none, sweeps_more, sweeps_whole)

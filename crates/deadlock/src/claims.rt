@@ -7,6 +7,7 @@ use nodes::{Node, Set};
 use waits::{Graph, Refusal};
 
 // All deadlocked nodes of a graph.
+#[tactic(auto, using(crate::proofs::Answers::found))]
 pub fn all_deadlocked(nodes: usize, rows: &[u64]) -> Result<Set, Refusal>
     ensures { FoundSays nodes rows.now result }
 {
@@ -15,6 +16,7 @@ pub fn all_deadlocked(nodes: usize, rows: &[u64]) -> Result<Set, Refusal>
 }
 
 // Whether the claim of node i is deadlocked.
+#[tactic(auto, using(crate::proofs::Answers::claimed))]
 pub fn deadlocked(nodes: usize, rows: &[u64], i: Node) -> Result<bool, Refusal>
     ensures { ClaimSays nodes rows.now i.0 result }
 {

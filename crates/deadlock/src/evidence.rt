@@ -25,6 +25,7 @@ pub enum Judged {
 }
 
 // The evidence for i as a set: the stuck nodes reachable from i, and nobody if i isn't stuck.
+#[tactic(auto, unfolding(crate::specs::Sweeps::knot))]
 fn knot(graph: Graph, i: Node) -> Set
     requires { i.0 < graph.nodes }
     ensures { num result ≡ knot_of (graph_of graph.entry) i.0 }
@@ -52,6 +53,7 @@ fn write(s: Set, nodes: usize, room: &mut [u8]) -> usize
 }
 
 // Writes the evidence for i, and says how many bytes it has. The room must have a byte for every node of the graph.
+#[tactic(auto, using(crate::proofs::Answers::room_shaped, crate::proofs::Answers::room_write))]
 pub fn write_evidence(
     nodes: usize,
     rows: &[u64],
@@ -65,6 +67,7 @@ pub fn write_evidence(
 }
 
 // The set of the nodes that a list names.
+#[tactic(auto, using(crate::proofs::Cases::entry_node, crate::proofs::Cases::taken_one, crate::proofs::Cases::none_taken))]
 fn set_of(nodes: usize, list: &[u8]) -> Set
     requires { (nodes ≤ places) × (strange_entry nodes list.now ≡ false) }
     ensures { num result ≡ set_of list.now }
@@ -77,6 +80,7 @@ fn set_of(nodes: usize, list: &[u8]) -> Set
 }
 
 // The first member, in the list's order, whose condition holds when the nodes of g grant; with none the list passes.
+#[tactic(auto, using(crate::proofs::Judging::first_walk))]
 fn first_satisfied(graph: Graph, list: &[u8], g: Set) -> Judged
     requires { strange_entry graph.nodes list.now ≡ false }
     ensures { result ≡ first_satisfied (graph_of graph.entry) (num g) list.now }
@@ -91,6 +95,7 @@ fn first_satisfied(graph: Graph, list: &[u8], g: Set) -> Judged
 }
 
 // What is said of a list of nodes that is offered for i: whether i is in it comes before what its members need.
+#[tactic(auto, unfolding(crate::specs::Evidence::judgement, waits::specs::Deadlocked::outside))]
 fn judge(graph: Graph, i: Node, list: &[u8]) -> Judged
     requires { strange_entry graph.nodes list.now ≡ false }
     ensures { result ≡ judgement (graph_of graph.entry) i.0 list.now }
@@ -105,6 +110,7 @@ fn judge(graph: Graph, i: Node, list: &[u8]) -> Judged
 }
 
 // Whether a list passes as evidence for i, whoever wrote it; and if it doesn't, why.
+#[tactic(auto, using(crate::proofs::Judging::judging))]
 pub fn check_evidence(nodes: usize, rows: &[u64], i: Node, list: &[u8]) -> Result<Judged, Refusal>
     ensures { result ≡ judged_of nodes rows.now i.0 list.now }
 {

@@ -18,6 +18,7 @@ struct Reaching {
 impl Visit for Reaching {
     ghost by = { λ s w. reaching w (num s.within) };
 
+    #[tactic(auto, using(crate::proofs::Paths::reaching_no))]
     fn visit(self, graph: Graph, k: Node, g: Set) -> Set {
         if g.has(k) {
             return g.union(self.within.meet(out_of(graph.row(k))));
@@ -27,6 +28,7 @@ impl Visit for Reaching {
 }
 
 // The nodes to which a path of one or more edges leads from i, all of whose nodes after i are in a set.
+#[tactic(auto, unfolding(crate::specs::Sweeps::ahead_within), using(crate::proofs::Paths::reaching_grows))]
 pub fn ahead_within(graph: Graph, within: Set, i: Node) -> Set
     requires { i.0 < graph.nodes }
     ensures { num result ≡ ahead_within (graph_of graph.entry) (num within) i.0 }
@@ -39,6 +41,7 @@ pub fn ahead_within(graph: Graph, within: Set, i: Node) -> Set
 }
 
 // The nodes to which any path of one or more edges leads from i.
+#[tactic(auto, unfolding(crate::specs::Sweeps::ahead))]
 pub fn ahead(graph: Graph, i: Node) -> Set
     requires { i.0 < graph.nodes }
     ensures { num result ≡ ahead_of (graph_of graph.entry) i.0 }

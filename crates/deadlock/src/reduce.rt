@@ -25,6 +25,7 @@ struct Freeing;
 impl Visit for Freeing {
     ghost by = { λ s. freeing };
 
+    #[tactic(auto, using(crate::proofs::Reduction::joins, crate::proofs::Reduction::joins_not))]
     fn visit(self, graph: Graph, k: Node, g: Set) -> Set {
         if joins(graph, g, k) {
             return g.with(k);
@@ -34,6 +35,7 @@ impl Visit for Freeing {
 }
 
 // The nodes that some reduction frees.
+#[tactic(auto, unfolding(crate::specs::Sweeps::freed), using(crate::proofs::Reduction::freeing_grows))]
 fn freed(graph: Graph) -> Set
     ensures { num result ≡ freed_of (graph_of graph.entry) }
 {
@@ -41,6 +43,7 @@ fn freed(graph: Graph) -> Set
 }
 
 // The nodes that no reduction frees.
+#[tactic(auto, unfolding(crate::specs::Sweeps::stuck))]
 pub fn stuck(graph: Graph) -> Set
     ensures { num result ≡ stuck_of (graph_of graph.entry) }
 {

@@ -25,6 +25,7 @@ fn of_no_row(number: u64) -> Refusal
 }
 
 // A question about node i: the graph, then 9.
+#[tactic(auto, using(crate::proofs::Refused::node_check))]
 pub fn check_node(nodes: usize, rows: &[u64], i: Node) -> Result<Graph, Refusal>
     ensures { GraphSays (check_node_of nodes rows.now i.0) nodes rows.now result }
 {
@@ -50,6 +51,7 @@ fn ascends(list: &[u8]) -> bool
 }
 
 // A question about a list for node i: the graph, 9, 14, then 18.
+#[tactic(auto, using(crate::proofs::Refused::list_check))]
 pub fn check_list<'a>(
     nodes: usize,
     rows: &'a [u64],
@@ -69,6 +71,7 @@ pub fn check_list<'a>(
 }
 
 // A question about node i with lent room: the graph, 9, then 15.
+#[tactic(auto, using(crate::proofs::Refused::room_check))]
 pub fn check_room(nodes: usize, rows: &[u64], i: Node, room: usize) -> Result<Graph, Refusal>
     ensures { GraphSays (check_room_of nodes rows.now i.0 room) nodes rows.now result }
 {

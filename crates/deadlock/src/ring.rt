@@ -15,6 +15,7 @@ pub enum Report {
 }
 
 // Whether node i, if it is deadlocked, is in the ring or behind it.
+#[tactic(auto, using(crate::proofs::Answers::reporting))]
 pub fn ring_report(nodes: usize, rows: &[u64], i: Node) -> Result<Report, Refusal>
     ensures { ReportSays nodes rows.now i.0 result }
 {

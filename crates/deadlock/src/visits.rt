@@ -19,6 +19,7 @@ pub trait Visit {
 }
 
 // Every node visited in turn.
+#[tactic(auto, using(crate::proofs::Sweeps::visiting))]
 fn sweep<V: Visit + Copy>(graph: Graph, by: V, from: Set) -> Set
     ensures { num result ≡ sweep_of (V.by by (graph_of graph.entry)) graph.entry.nodes (num from) }
 {
@@ -30,6 +31,7 @@ fn sweep<V: Visit + Copy>(graph: Graph, by: V, from: Set) -> Set
 }
 
 // The set at which sweeps come to rest. One that adds nobody is the last; as many as there are nodes are enough.
+#[tactic(auto, using(crate::proofs::Sweeps::sweeping))]
 pub fn settle<V: Visit + Copy>(graph: Graph, by: V, from: Set) -> Set
     requires { (k g : ℕ) → Inside g (V.by by (graph_of graph) k g) }
     ensures { num result ≡ sweeps_of (V.by by (graph_of graph.entry)) graph.entry.nodes graph.entry.nodes (num from) }

@@ -1,5 +1,6 @@
 -- Steps and answers in lent lists: one number each. Assumes nothing.
-use Rattle.std.specs.Prelude.{ℕ, ◌+◌, ◌*◌, ◌/◌, ◌%◌, ◌^◌}
+use Rattle.std.specs.Prelude.{ℕ, ◌+◌, ◌*◌, ◌/◌, ◌%◌, ◌^◌, Result}
+use Rattle.waits.specs.declared.numbers.Refusal.{Refusal}
 use Rattle.step.specs.declared.answers.Answer.{Answer}
 use Rattle.step.specs.Answers.{code_of}
 use Rattle.lent.specs.declared.steps.Step.{Step}
@@ -13,5 +14,5 @@ unfoldable pub step_of : ℕ → Step
 step_of x = record { kind = x / 2 ^ 48; a = x / 2 ^ 24 % 2 ^ 24; b = x % 2 ^ 24 }
 
 -- the number of an answer; sent is how many messages are sent by then
-unfoldable pub answer_number : ℕ → Answer → ℕ
+unfoldable pub answer_number : ℕ → Result Answer Refusal → ℕ
 answer_number sent answer = sent * 2 ^ 16 + code_of answer

@@ -20,6 +20,7 @@ pub fn records_room() -> [u64; RECORDS]
 }
 
 // How many numbers the records of a graph have; one that is too large is refused, whatever its records are.
+#[tactic(auto, unfolding(crate::specs::Kept::record_numbers))]
 pub fn record_numbers(nodes: usize) -> usize
     ensures { (result ≡ record_numbers nodes) × (result ≤ most_records) }
 {
@@ -30,6 +31,7 @@ pub fn record_numbers(nodes: usize) -> usize
 }
 
 // The record of node i.
+#[tactic(auto, unfolding(crate::specs::Kept::record_at))]
 pub fn record_at(records: &[u64], i: Node) -> Record
     requires { i.0 * record_size + record_size ≤ length records.now }
     ensures { result ≡ record_at records.now i.0 }
@@ -52,11 +54,7 @@ pub fn put_record(records: &mut [u64], i: Node, r: Record)
     ensures { records.new ≡ put_state records.old i.0 (state_of r) }
 {
     let at = i.0 * RECORD;
-    records[at] = r.round.0;
-    records[at + 1] = r.call.0;
-    records[at + 2] = r.freed.0;
-    records[at + 3] = r.notify.0;
-    records[at + 4] = r.grant.0;
-    records[at + 5] = r.ack.0;
-    records[at + 6] = r.done.0;
+    records[at..at + RECORD].copy_from_slice(&[
+        r.round.0, r.call.0, r.freed.0, r.notify.0, r.grant.0, r.ack.0, r.done.0,
+    ]);
 }

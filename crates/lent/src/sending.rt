@@ -5,17 +5,17 @@ ghost use Rattle.nodes.specs.Sets.{Inside, below, size};
 ghost use Rattle.nodes.specs.Words.{num, places};
 ghost use Rattle.records.specs.declared.messages.Kind.{Kind};
 ghost use Rattle.records.specs.Rounds.{last_round};
-ghost use Rattle.records.specs.Messages.{kind_number};
 ghost use Rattle.step.specs.Letters.{letters, letters_of, how_many};
 ghost use Rattle.step.specs.Sent.{to_whom};
 ghost use Rattle.step.specs.Views.{receivers_of};
 ghost use Rattle.lent.specs.Coded.{message_of, number_of, base_of};
 
-use nodes::{Node, Round, Set, Smallest};
+use nodes::{Node, Round, Set};
 use records::{Kind, Message};
 use step::Sends;
 
 // The message that a number stands for.
+#[tactic(auto, unfolding(crate::specs::Coded::message_of))]
 pub fn message_of(x: u64) -> Message
     ensures { result ≡ message_of x }
 {
@@ -31,22 +31,8 @@ pub fn message_of(x: u64) -> Message
 pub fn total(sends: Sends) -> usize
     ensures { (result ≡ how_many (receivers_of sends)) × (result ≤ 256) }
 {
-    let notify = sends.notify;
-    let grant = sends.grant;
-    let ack = sends.ack;
-    let done = sends.done;
-    (notify.size() + (grant.size() + (ack.size() + done.size()))) as usize
-}
-
-fn kind_number(kind: Kind) -> u64
-    ensures { result ≡ kind_number kind }
-{
-    match kind {
-        Kind::Notify => 0,
-        Kind::Grant => 1,
-        Kind::Ack => 2,
-        Kind::Done => 3,
-    }
+    let count = sends.notify.size() + sends.grant.size() + sends.ack.size() + sends.done.size();
+    count as usize
 }
 
 // The number of a message to node 0: one to node k is k more.
@@ -54,7 +40,7 @@ fn base(kind: Kind, from: Node, round: Round) -> u64
     requires { (from.0 < places) × (round.0 ≤ last_round) }
     ensures { (result ≡ base_of kind from.0 round.0) × (result ≤ 1099511627776) }
 {
-    round.0 * 16_777_216 + kind_number(kind) * 65_536 + from.0 as u64 * 256
+    round.0 * 16_777_216 + kind as u64 * 65_536 + from.0 as u64 * 256
 }
 
 // Writes a message of one kind to each node of a set, by ascending receiver, from a place on.
@@ -70,17 +56,12 @@ fn send_kind(
     ensures { (result ≡ at + size (num to)) × (messages.new ≡ sets messages.old at (map number_of (letters kind from.0 round.0 (num to)))) }
 {
     let first = base(kind, from, round);
-    let mut left = to;
     let mut place = at;
-    loop {
-        let next = left.smallest();
-        let Smallest::At(k) = next else {
-            return place;
-        };
+    for k in to.members() {
         messages[place] = first + k.0 as u64;
         place += 1;
-        left = left.minus(Set::empty().with(k));
     }
+    place
 }
 
 // Writes the messages of a step, in their order.
@@ -88,12 +69,8 @@ pub fn send(messages: &mut [u64], at: usize, from: Node, round: Round, sends: Se
     requires { (at + how_many (receivers_of sends) ≤ length messages.old) × ((k : Kind) → Inside (to_whom (receivers_of sends) k) (below places)) × (from.0 < places) × (round.0 ≤ last_round) }
     ensures { (result ≡ at + how_many (receivers_of sends)) × (messages.new ≡ sets messages.old at (map number_of (letters_of from.0 round.0 (receivers_of sends)))) }
 {
-    let notify = sends.notify;
-    let grant = sends.grant;
-    let ack = sends.ack;
-    let done = sends.done;
-    let second = send_kind(messages, at, Kind::Notify, from, round, notify);
-    let third = send_kind(messages, second, Kind::Grant, from, round, grant);
-    let fourth = send_kind(messages, third, Kind::Ack, from, round, ack);
-    send_kind(messages, fourth, Kind::Done, from, round, done)
+    let second = send_kind(messages, at, Kind::Notify, from, round, sends.notify);
+    let third = send_kind(messages, second, Kind::Grant, from, round, sends.grant);
+    let fourth = send_kind(messages, third, Kind::Ack, from, round, sends.ack);
+    send_kind(messages, fourth, Kind::Done, from, round, sends.done)
 }

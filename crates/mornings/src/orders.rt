@@ -53,8 +53,7 @@ fn end(rt: &impl Print, records: &[u64]) -> io::Result<()>
 
 // A line on a node that another called.
 fn caller(rt: &impl Print, k: usize, call: Cause) -> io::Result<()> {
-    let why = call.why();
-    if let Why::By(c) = why {
+    if let Why::By(c) = Why::from(call) {
         text(rt, b"node ")?;
         number(rt, k as u64)?;
         text(rt, b" called by ")?;

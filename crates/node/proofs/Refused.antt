@@ -1,5 +1,5 @@
 -- The table's order for one controller, and what isn't refused. Assumes nothing.
-use mathlib.Core.Path.{◌≡◌, refl, ap, ◌∙◌}
+use mathlib.Core.Path.{◌≡◌, refl}
 use mathlib.Core.Logic.{◌↔◌}
 use mathlib.Core.Bool.{false}
 use mathlib.Core.List.{List}
@@ -18,12 +18,10 @@ use Rattle.records.specs.Rounds.{cannot_open}
 use Rattle.records.specs.Messages.{kinds, strange_message}
 use Rattle.records.specs.Records.{State, Fitting, strange_record}
 use Rattle.records.proofs.Fits.{record_fits}
-use Rattle.waits.specs.declared.rows.Row.{Row}
 use Rattle.waits.specs.declared.numbers.Refusal.{Refusal}
-use Rattle.waits.specs.declared.numbers.Checked.{Checked}
-use Rattle.waits.specs.declared.numbers.Checked.TheVariants.{Accepted, Refused}
+use Rattle.std.specs.Prelude.{Ok, Err}
 use Rattle.waits.specs.Rows.{row_size, row_at}
-use Rattle.waits.specs.Numbers.{line, strange_count, check_row_of, Gives}
+use Rattle.waits.specs.Numbers.{line, strange_count, Gives}
 use Rattle.waits.proofs.Cases.{count_fits}
 use Rattle.waits.proofs.Table.{accepted_silent, refused_iff, Fine, fine}
 use Rattle.waits.proofs.Next.{Next, next, refused_before, next_accepted}
@@ -34,11 +32,8 @@ pub right_own : (n numbers : ℕ) → wrong_own n numbers ≡ false → (n ≤ p
 unfolding wrong_own
 right_own n numbers e = (count_fits n (or_left_false (strange_count n) _ e), eqb-true numbers row_size (not-false _ (or_right_false (strange_count n) _ e)))
 
-pub row_checked : (n k : ℕ) (row : List ℕ) {r : Row} {a : Checked} → a ≡ check_row_of n k r → r ≡ row_at row 0 → a ≡ check_row_of n k (row_at row 0)
-row_checked n k row e f = e ∙ ap (check_row_of n k) f
-
 module _ (n me : ℕ) (row : List ℕ) where
-  pub own_accepted : check_own_of n me row ≡ Accepted → (n ≤ places) × (length row ≡ row_size)
+  pub own_accepted : check_own_of n me row ≡ Ok tt → (n ≤ places) × (length row ≡ row_size)
   unfolding check_own_of
   own_accepted e = right_own n (length row) (accepted_silent (own_lines n me row) e (line 1 0 (wrong_own n (length row))) (here refl))
 
@@ -55,43 +50,43 @@ module _ (n me : ℕ) (row : List ℕ) where
     unfolding check_kept_of check_deliver_of
     deliver_next m = next (kept_lines n me row ins s) (line 13 0 (strange_message n m))
 
-    pub kept_refused : {r : Refusal} → check_own_of n me row ≡ Refused r → Refused r ≡ check_kept_of n me row ins s
+    pub kept_refused : {r : Refusal} → check_own_of n me row ≡ Err r → Err r ≡ check_kept_of n me row ins s
     kept_refused = refused_before (line 13 0 (strange_kept n s ins)) kept_next
 
-    pub open_refused : (round : ℕ) {r : Refusal} → check_kept_of n me row ins s ≡ Refused r → Refused r ≡ check_open_of n me row ins s round
+    pub open_refused : (round : ℕ) {r : Refusal} → check_kept_of n me row ins s ≡ Err r → Err r ≡ check_open_of n me row ins s round
     open_refused round = refused_before (line 10 0 (cannot_open s.round round)) (open_next round)
 
-    pub deliver_refused : (m : Message) {r : Refusal} → check_kept_of n me row ins s ≡ Refused r → Refused r ≡ check_deliver_of n me row ins s m
+    pub deliver_refused : (m : Message) {r : Refusal} → check_kept_of n me row ins s ≡ Err r → Err r ≡ check_deliver_of n me row ins s m
     deliver_refused m = refused_before (line 13 0 (strange_message n m)) (deliver_next m)
 
     -- Theorems: each number is given exactly when its line says so and no earlier one does.
-    pub opening_refused : (round : ℕ) (r : Refusal) → (check_open_of n me row ins s round ≡ Refused r) ↔ Gives (open_lines n me row ins s round) r
+    pub opening_refused : (round : ℕ) (r : Refusal) → (check_open_of n me row ins s round ≡ Err r) ↔ Gives (open_lines n me row ins s round) r
     unfolding check_open_of
     opening_refused round r = refused_iff (open_lines n me row ins s round) r
 
-    pub delivery_refused : (m : Message) (r : Refusal) → (check_deliver_of n me row ins s m ≡ Refused r) ↔ Gives (deliver_lines n me row ins s m) r
+    pub delivery_refused : (m : Message) (r : Refusal) → (check_deliver_of n me row ins s m ≡ Err r) ↔ Gives (deliver_lines n me row ins s m) r
     unfolding check_deliver_of
     delivery_refused m r = refused_iff (deliver_lines n me row ins s m) r
 
     -- what isn't refused: few enough nodes, six row numbers, and a record that names nodes
-    kept_accepted : check_kept_of n me row ins s ≡ Accepted → (n ≤ places) × (length row ≡ row_size) × Fitting s
+    kept_accepted : check_kept_of n me row ins s ≡ Ok tt → (n ≤ places) × (length row ≡ row_size) × Fitting s
     unfolding strange_kept
     kept_accepted e =
         let p = next_accepted (line 13 0 (strange_kept n s ins)) kept_next e in
         let q = own_accepted p.0 in
         (q.0, q.1, record_fits n s q.0 (or_left_false (strange_record n s) _ p.1))
 
-    pub open_own : (round : ℕ) → check_open_of n me row ins s round ≡ Accepted → Fine n me (row_at row 0)
+    pub open_own : (round : ℕ) → check_open_of n me row ins s round ≡ Ok tt → Fine n me (row_at row 0)
     unfolding check_own_of
     open_own round e =
         let p = next_accepted (line 10 0 (cannot_open s.round round)) (open_next round) e in
         let q = next_accepted (line 13 0 (strange_kept n s ins)) kept_next p.0 in
         fine n me (row_at row 0) (λ l i. accepted_silent (own_lines n me row) q.0 l (there (there i)))
 
-    pub open_accepted : (round : ℕ) → check_open_of n me row ins s round ≡ Accepted → length row ≡ row_size
+    pub open_accepted : (round : ℕ) → check_open_of n me row ins s round ≡ Ok tt → length row ≡ row_size
     open_accepted round e = (kept_accepted (next_accepted (line 10 0 (cannot_open s.round round)) (open_next round) e).0).1
 
-    pub deliver_accepted : (m : Message) → check_deliver_of n me row ins s m ≡ Accepted → (length row ≡ row_size) × (m.from.0 < places) × Fitting s
+    pub deliver_accepted : (m : Message) → check_deliver_of n me row ins s m ≡ Ok tt → (length row ≡ row_size) × (m.from.0 < places) × Fitting s
     unfolding strange_message no_node
     deliver_accepted m e =
         let p = next_accepted (line 13 0 (strange_message n m)) (deliver_next m) e in

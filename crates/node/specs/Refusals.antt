@@ -1,11 +1,11 @@
 -- When a controller refuses: 1, 9, its row's numbers, 13, and 10 for an opening. Assumes nothing.
-use Rattle.std.specs.Prelude.{Bool, not, ◌||◌, List, [], ◌∷◌, ◌++◌, ℕ, eqb, length}
+use Rattle.std.specs.Prelude.{Bool, not, ◌||◌, List, [], ◌∷◌, ◌++◌, ℕ, eqb, length, Result}
 use Rattle.nodes.specs.Sets.{no_node}
 use Rattle.records.specs.declared.messages.Message.{Message}
 use Rattle.records.specs.Rounds.{cannot_open}
 use Rattle.records.specs.Messages.{strange_message}
 use Rattle.records.specs.Records.{State, strange_set, strange_record}
-use Rattle.waits.specs.declared.numbers.Checked.{Checked}
+use Rattle.waits.specs.declared.numbers.Refusal.{Refusal}
 use Rattle.waits.specs.Rows.{row_size, row_at}
 use Rattle.waits.specs.Numbers.{strange_count, Line, line, row_lines, first_said}
 
@@ -33,14 +33,14 @@ abbrev pub deliver_lines : ℕ → ℕ → List ℕ → ℕ → State → Messag
 deliver_lines n me row ins s m = kept_lines n me row ins s ++ line 13 0 (strange_message n m) ∷ []
 
 -- what the checks answer: of the node and its row; of what it keeps too; of an opening; of a delivery
-unfoldable pub check_own_of : ℕ → ℕ → List ℕ → Checked
+unfoldable pub check_own_of : ℕ → ℕ → List ℕ → Result Unit Refusal
 check_own_of n me row = first_said (own_lines n me row)
 
-unfoldable pub check_kept_of : ℕ → ℕ → List ℕ → ℕ → State → Checked
+unfoldable pub check_kept_of : ℕ → ℕ → List ℕ → ℕ → State → Result Unit Refusal
 check_kept_of n me row ins s = first_said (kept_lines n me row ins s)
 
-unfoldable pub check_open_of : ℕ → ℕ → List ℕ → ℕ → State → ℕ → Checked
+unfoldable pub check_open_of : ℕ → ℕ → List ℕ → ℕ → State → ℕ → Result Unit Refusal
 check_open_of n me row ins s round = first_said (open_lines n me row ins s round)
 
-unfoldable pub check_deliver_of : ℕ → ℕ → List ℕ → ℕ → State → Message → Checked
+unfoldable pub check_deliver_of : ℕ → ℕ → List ℕ → ℕ → State → Message → Result Unit Refusal
 check_deliver_of n me row ins s m = first_said (deliver_lines n me row ins s m)

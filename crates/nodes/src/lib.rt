@@ -1,5 +1,5 @@
 // Nodes, rounds, and sets of nodes. Nothing outside this crate shifts or masks.
-#![tactic(auto)]
+#![tactic(auto, unfolding(crate::specs::Words::num, crate::specs::Words::to_come, crate::specs::Sets::bit, crate::specs::Sets::union, crate::specs::Sets::meet, crate::specs::Sets::minus, crate::specs::Sets::inside))]
 
 ghost use Rattle.std.specs.Prelude.{◌≡◌, ◌<◌, ◌≤◌, eqb, MatchOption, [], ◌∷◌};
 ghost use Rattle.nodes.specs.Sets.{bit, has, union, meet, minus, with, below, inside, members, size};
@@ -116,7 +116,6 @@ impl Set {
     }
 
     // The members in turn, for a loop over them.
-    #[tactic(auto, unfolding(crate::specs::Words::to_come))]
     pub fn members(self) -> InTurn
         ensures { to_come result ≡ members (num self) }
     {
@@ -139,7 +138,6 @@ impl Iterator for InTurn {
 
     ghost remaining = { item_count to_come };
 
-    #[tactic(auto, unfolding(crate::specs::Words::to_come))]
     fn next(&mut self) -> Option<Node> {
         let (k, others) = self.left.split_first()?;
         self.left = others;

@@ -5,35 +5,21 @@ use mathlib.Core.Logic.{◌↔◌}
 use Prim.Native.Nat.{ℕ, ◌≤◌, ◌<◌}
 use native.Mathlib.Omega.{arith}
 use lib.Dec.{eqb, ltb}
+use Rattle.std.proofs.lemmas.Bool.Decides.{nat_tests}
 use borrow.Author.Tests.{not-false, lt-ltb, ltb-true, ltb-false, le-ltb, eqb-false, ne_eqb}
 use Rattle.lemmas.proofs.Tests.{or_left_false, or_right_false}
-use Rattle.records.specs.declared.rounds.Compared.TheVariants.{Behind, Same, Ahead}
-use Rattle.records.specs.Rounds.{last_round, compare_of, is_behind, is_ahead, behind, ahead, no_round, cannot_open}
+use Rattle.records.specs.Rounds.{last_round, compare_of, behind, ahead, no_round, cannot_open}
 use Rattle.records.specs.Records.{State, blank_of, in_round}
 
 -- a round is ahead exactly if it is the higher one
-by_test : (round own : ℕ) (p : Bool) → ltb round own ≡ p → ahead round own ≡ ltb own round
-unfolding ahead compare_of
-by_test round own true e =
-    ap (λ (b : Bool). is_ahead (cond b Behind (cond (ltb own round) Ahead Same))) e ∙ (let h = ltb-true round own e in rw (le-ltb own round (omega arith)) refl)
-by_test round own false e = ap (λ (b : Bool). is_ahead (cond b Behind (cond (ltb own round) Ahead Same))) e ∙ other (ltb own round)
-  where
-    other : (b : Bool) → is_ahead (cond b Ahead Same) ≡ b
-    other true = refl
-    other false = refl
-
 higher : (round own : ℕ) → ahead round own ≡ ltb own round
-higher round own = by_test round own (ltb round own) refl
+unfolding ahead compare_of
+higher round own = grind (arith, nat_tests)
 
 -- and behind exactly if it is the lower one
 lower : (round own : ℕ) → behind round own ≡ ltb round own
 unfolding behind compare_of
-lower round own = go (ltb round own) (ltb own round)
-  where
-    go : (p q : Bool) → is_behind (cond p Behind (cond q Ahead Same)) ≡ p
-    go true q = refl
-    go false true = refl
-    go false false = refl
+lower round own = grind (arith, nat_tests)
 
 -- Theorem: rounds are compared as numbers.
 pub behind_iff : (round own : ℕ) → (behind round own ≡ true) ↔ (round < own)

@@ -1,5 +1,4 @@
 -- The laws of records and messages.
-pub mod Views
 pub mod Among
 pub mod Fits
 pub mod Unique

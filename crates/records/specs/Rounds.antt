@@ -1,25 +1,25 @@
 -- Rounds: which there are, and how two of them are compared. Assumes nothing.
 use Rattle.std.specs.Prelude.{Bool, true, false, cond, not, ◌||◌, ℕ, ltb, eqb}
-use Rattle.records.specs.declared.rounds.Compared.{Compared}
-use Rattle.records.specs.declared.rounds.Compared.TheVariants.{Behind, Same, Ahead}
+use Rattle.std.specs.declared.cmp.Ordering.{Ordering}
+use Rattle.std.specs.declared.cmp.Ordering.TheVariants.{Less, Equal, Greater}
 
 -- rounds are 1 to 65,535; fresh records are in round 0
 abbrev pub last_round : ℕ
 last_round = 65535
 
--- how a round stands to a record's: no other definition says which of two rounds is the older
-unfoldable pub compare_of : ℕ → ℕ → Compared
-compare_of round own = cond (ltb round own) Behind (cond (ltb own round) Ahead Same)
+-- how a round stands to a record's, behind it, the same or ahead: no other definition says which of two rounds is the older
+unfoldable pub compare_of : ℕ → ℕ → Ordering
+compare_of round own = cond (ltb round own) Less (cond (ltb own round) Greater Equal)
 
-abbrev pub is_behind : Compared → Bool
-is_behind Behind = true
-is_behind Same = false
-is_behind Ahead = false
+abbrev pub is_behind : Ordering → Bool
+is_behind Less = true
+is_behind Equal = false
+is_behind Greater = false
 
-abbrev pub is_ahead : Compared → Bool
-is_ahead Behind = false
-is_ahead Same = false
-is_ahead Ahead = true
+abbrev pub is_ahead : Ordering → Bool
+is_ahead Less = false
+is_ahead Equal = false
+is_ahead Greater = true
 
 unfoldable pub behind : ℕ → ℕ → Bool
 behind round own = is_behind (compare_of round own)

@@ -8,7 +8,7 @@ use nodes::{Node, Round};
 // How many kinds there are.
 const KINDS: u64 = 4;
 
-#[derive(Clone, Copy)]
+#[derive(Clone, Copy, Debug, PartialEq, Eq)]
 pub enum Kind {
     Notify,
     Grant,
@@ -17,7 +17,7 @@ pub enum Kind {
 }
 
 // A message as it is handed in: any number may stand for its kind.
-#[derive(Clone, Copy)]
+#[derive(Clone, Copy, Debug, PartialEq, Eq)]
 pub struct Message {
     pub kind: u64,
     pub from: Node,
@@ -38,18 +38,9 @@ pub fn kind_of(number: u64) -> Kind
 }
 
 // Number 13, of a message.
+#[tactic(auto, unfolding(crate::specs::Messages::strange_message, nodes::specs::Sets::no_node))]
 pub fn strange_message(nodes: usize, m: Message) -> bool
     ensures { result ≡ strange_message nodes m }
 {
-    if KINDS <= m.kind {
-        return true;
-    }
-    if nodes <= m.from.0 {
-        return true;
-    }
-    if nodes <= m.to.0 {
-        return true;
-    }
-    let round = m.round;
-    no_round(round)
+    KINDS <= m.kind || nodes <= m.from.0 || nodes <= m.to.0 || no_round(m.round)
 }

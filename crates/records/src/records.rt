@@ -11,7 +11,7 @@ use nodes::{Node, Round, Set};
 
 // The round; whether the node is called in it and free in it, and through whom; and whose NOTIFY, GRANT, ACK and DONE it
 // has had.
-#[derive(Clone, Copy)]
+#[derive(Clone, Copy, Debug, PartialEq, Eq)]
 pub struct Record {
     pub round: Round,
     pub call: Cause,
@@ -27,7 +27,7 @@ pub fn blank(round: Round) -> Record
 {
     let nobody = Set::empty();
     Record {
-        round: round,
+        round,
         call: Cause(0),
         freed: Cause(0),
         notify: nobody,
@@ -38,11 +38,11 @@ pub fn blank(round: Round) -> Record
 }
 
 // The record as it stands in a round: blank if it has not come there yet.
+#[tactic(auto, unfolding(crate::specs::Records::in_round))]
 pub fn in_round(r: Record, round: Round) -> Record
     ensures { state_of result ≡ in_round round.0 (state_of r) }
 {
-    let own = r.round;
-    if ahead(round, own) {
+    if ahead(round, r.round) {
         return blank(round);
     }
     r
@@ -75,33 +75,20 @@ pub fn mark(r: Record, kind: Kind, from: Node) -> Record
 }
 
 // Whether a set names a node that isn't there.
+#[tactic(auto, unfolding(crate::specs::Records::strange_set))]
 pub fn strange_set(nodes: usize, s: Set) -> bool
     requires { nodes ≤ places }
     ensures { result ≡ strange_set nodes (num s) }
 {
-    let all = Set::below(nodes);
-    !s.inside(all)
+    !s.inside(Set::below(nodes))
 }
 
 // Number 13, of a record.
+#[tactic(auto, unfolding(crate::specs::Records::strange_record))]
 pub fn strange_record(nodes: usize, r: Record) -> bool
     requires { nodes ≤ places }
     ensures { result ≡ strange_record nodes (state_of r) }
 {
-    let call = r.call;
-    let freed = r.freed;
-    let n = r.notify;
-    let g = r.grant;
-    let a = r.ack;
-    let d = r.done;
-    if LAST < r.round.0 {
-        return true;
-    }
-    if call.strange(nodes) {
-        return true;
-    }
-    if freed.strange(nodes) {
-        return true;
-    }
-    strange_set(nodes, n.union(g.union(a.union(d))))
+    let all = r.notify.union(r.grant.union(r.ack.union(r.done)));
+    LAST < r.round.0 || r.call.strange(nodes) || r.freed.strange(nodes) || strange_set(nodes, all)
 }

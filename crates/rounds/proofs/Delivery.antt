@@ -17,6 +17,7 @@ use Rattle.records.specs.Records.{State, in_round, had_of, mark_of}
 use Rattle.records.proofs.Higher.{not_behind_itself, in_round_stays}
 use Rattle.records.proofs.Marks.{mark_round, mark_call, mark_freed, had_marked}
 use Rattle.waits.specs.Waits.{Waits}
+use Rattle.std.specs.Prelude.{Ok}
 use Rattle.step.specs.declared.answers.Answer.TheVariants.{Repeat}
 use Rattle.step.specs.Step.{Seen, Outcome, seen_in, nobody, still, stray, take}
 use Rattle.step.specs.Sent.{Grows, Fresh, Sound}
@@ -36,7 +37,7 @@ nobody_grows o r Done = adds_none _
 
 -- ---- what becomes of a message, and what was had then
 abbrev pub Repeats : Waits → Stage → Letter → Type 0
-Repeats w c m = (reply w c m ≡ still (c.records m.to) Repeat) × In m.from (had_of m.kind (c.records m.to))
+Repeats w c m = (reply w c m ≡ still (c.records m.to) (Ok Repeat)) × In m.from (had_of m.kind (c.records m.to))
 
 abbrev pub Takes : Waits → Stage → Letter → Type 0
 Takes w c m = (reply w c m ≡ take (seen_in w m.to) (c.records m.to) m) × Fresh (seen_in w m.to) (c.records m.to) m
@@ -70,7 +71,7 @@ module _ {w : Waits} {s round : ℕ} {c : Stage} (v : Invariant w s round c.reco
   pub fits : stray o r m ≡ false
   fits = not_stray v m said.1 said.2
 
-  arrived : (b : Bool) → has (had_of m.kind r) m.from ≡ b → reply w c m ≡ cond b (still r Repeat) (take o r m)
+  arrived : (b : Bool) → has (had_of m.kind r) m.from ≡ b → reply w c m ≡ cond b (still r (Ok Repeat)) (take o r m)
   arrived b e = arrives o r m (ap (behind m.round) same_round ∙ not_behind_itself m.round) stays fits e
 
   pub repeats_or_takes : Repeats w c m ⊎ Takes w c m

@@ -10,6 +10,8 @@ use Rattle.records.specs.Records.{State, in_round}
 use Rattle.records.proofs.Higher.{not_behind, in_round_at}
 use Rattle.records.proofs.Marks.{mark_round}
 use Rattle.waits.specs.Waits.{Waits}
+use Rattle.std.specs.Prelude.{Result, Ok}
+use Rattle.waits.specs.declared.numbers.Refusal.{Refusal}
 use Rattle.step.specs.declared.answers.Answer.{Answer}
 use Rattle.step.specs.Step.{Outcome, seen_in, nobody, still, open_round, take, receive}
 use Rattle.step.specs.Letters.{letters_of}
@@ -28,7 +30,7 @@ unfolding letters_of members members_from
 still_sends i round = refl
 
 -- where the record stays and nothing is sent, nothing changes
-pub still_joined : (c : Stage) (i : ℕ) (a : Answer) → joined c i (still (c.records i) a) ≡ c
+pub still_joined : (c : Stage) (i : ℕ) (a : Result Answer Refusal) → joined c i (still (c.records i) a) ≡ c
 still_joined c i a = λ j. record {
   records = λ k. put_still c.records i (c.records i) refl k j;
   sent = (ap (λ (x : List Letter). c.sent ++ x) (still_sends i (c.records i).round) ∙ append-nil c.sent) j;
@@ -50,7 +52,7 @@ open_effect w i round r h =
 
 -- a message
 module _ (w : Waits) (r : State) (m : Letter) where
-  stays_effect : (a : Answer) → Effect m.round m.to r (still r a)
+  stays_effect : (a : Answer) → Effect m.round m.to r (still r (Ok a))
   stays_effect a = record {
     letters = λ x h. absurd (elim (subst (λ (l : List Letter). Memᴰ x l) (still_sends m.to r.round) h) [ ]);
     state = inl refl;

@@ -11,6 +11,7 @@ use Rattle.records.specs.declared.messages.Kind.TheVariants.{Notify, Grant, Ack,
 use Rattle.records.specs.Messages.{Letter, kind_number}
 use Rattle.records.specs.Rounds.{behind, cannot_open}
 use Rattle.records.specs.Records.{blank_of, in_round}
+use Rattle.std.specs.Prelude.{Ok}
 use Rattle.step.specs.declared.answers.Verdict.{Verdict}
 use Rattle.step.specs.declared.answers.Verdict.TheVariants.{NotDeadlocked}
 use Rattle.step.specs.declared.answers.Answer.TheVariants.{Old}
@@ -85,7 +86,7 @@ same_since (e ∷ l) = ap (λ (c : Stage). joined c (node_of e) (outcome sixth c
 -- A node that blanks its record when a message of an old round comes.
 abbrev blanking : Rule
 blanking c (opens i round) = open_round (seen_in sixth i) round
-blanking c (arrives m) = cond (behind m.round (c.records m.to).round) (still (blank_of (c.records m.to).round) Old) (reply sixth c m)
+blanking c (arrives m) = cond (behind m.round (c.records m.to).round) (still (blank_of (c.records m.to).round) (Ok Old)) (reply sixth c m)
 
 -- Node 1 forgets that it is free, so the ACK is stray, and no DONE is sent.
 pub blanking_silent : Silent blanking

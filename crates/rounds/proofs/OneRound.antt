@@ -20,6 +20,7 @@ use Rattle.waits.specs.Waits.{Waits, Lawful}
 use Rattle.waits.specs.Deadlocked.{Reduction, Deadlocked, Reachable, outside, passes}
 use Rattle.deadlock.specs.Evidence.{Evidence}
 use Rattle.deadlock.proofs.Passing.{in_outside, passes_iff, passes_deadlocked}
+use Rattle.std.specs.Prelude.{Option, Ok}
 use Rattle.step.specs.declared.answers.Verdict.{Verdict}
 use Rattle.step.specs.declared.answers.Answer.TheVariants.{Repeat, Taken}
 use Rattle.step.specs.Step.{Outcome}
@@ -136,7 +137,7 @@ module _ (w : Waits) (lawful : Lawful w) (s : ℕ) (node : s < w.nodes) (round :
   drained all k a b n m = good.having.had (letter k a b round) (all (letter k a b round) (good.sending.listed a n k b m))
 
   never_stray : (m : Letter) → Memᴰ m now.sent
-      → (((reply w now m).answer ≡ Repeat) × Memᴰ m l) ⊎ (((v : Verdict) × ((reply w now m).answer ≡ Taken v)) × (Memᴰ m l → ⊥))
+      → (((reply w now m).answer ≡ Ok Repeat) × Memᴰ m l) ⊎ (((v : Option Verdict) × ((reply w now m).answer ≡ Ok (Taken v))) × (Memᴰ m l → ⊥))
   never_stray m i = elim (repeats_or_takes good.invariant good.sending m i) [
     | inl p ↦ inl (ap (λ (x : Outcome). x.answer) p.0, before p.1)
     | inr p ↦ inr ((_, ap (λ (x : Outcome). x.answer) p.0 ∙ take_answer _ _ _), λ d. not_both (in_has _ _ (good.having.had m d)) p.1.1)

@@ -16,6 +16,8 @@ use Rattle.records.specs.Records.{State, in_round, had_of, mark_of}
 use Rattle.records.proofs.Higher.{in_round_at}
 use Rattle.records.proofs.Marks.{mark_round, mark_call}
 use Rattle.waits.specs.Waits.{Waits}
+use Rattle.std.specs.Prelude.{Result, Ok}
+use Rattle.waits.specs.declared.numbers.Refusal.{Refusal}
 use Rattle.step.specs.declared.answers.Verdict.{Verdict}
 use Rattle.step.specs.declared.answers.Answer.{Answer}
 use Rattle.step.specs.declared.answers.Answer.TheVariants.{Stray, Repeat}
@@ -72,7 +74,7 @@ module _ (w : Waits) (r : State) (m : Letter) where
     | inr e ↦ subst ByOpener (sym (arrives o r m e refl refl refl)) (go (stray o at m) (has (had_of m.kind at) m.from) (take_says e))
   ]
     where
-      go : (a b : Bool) → ByOpener (take o at m) → ByOpener (cond a (still r Stray) (cond b (still r Repeat) (take o at m)))
+      go : (a b : Bool) → ByOpener (take o at m) → ByOpener (cond a (still r (Ok Stray)) (cond b (still r (Ok Repeat)) (take o at m)))
       go true b t = λ v i. absurd (elim i [ ])
       go false true t = λ v i. absurd (elim i [ ])
       go false false t = t
@@ -101,8 +103,8 @@ module _ (w : Waits) where
       there (subst (Opened l m.to) says.1 (receive_own w r m l (all_own l m.to) says.0))
 
   -- Theorem: a verdict is given by the node that opened the round, whatever happened.
-  pub all_openers : (l : List Event) (e : Event) (a : Answer) → Memᴰ (e, a) (answers_of w l) → (v : Verdict) → Memᴰ v (verdict_in a) → Opened l (node_of e) (round_of e)
+  pub all_openers : (l : List Event) (e : Event) (a : Result Answer Refusal) → Memᴰ (e, a) (answers_of w l) → (v : Verdict) → Memᴰ v (verdict_in a) → Opened l (node_of e) (round_of e)
   all_openers (x ∷ l) e a (here q) v i =
-      subst (λ (y : Event × Answer). Memᴰ v (verdict_in y.1) → Opened (x ∷ l) (node_of y.0) (round_of y.0)) (sym q) (event_opener l x v) i
+      subst (λ (y : Event × Result Answer Refusal). Memᴰ v (verdict_in y.1) → Opened (x ∷ l) (node_of y.0) (round_of y.0)) (sym q) (event_opener l x v) i
   all_openers (x ∷ l) e a (there h) v i = there (all_openers l e a h v i)
   all_openers [] e a x'' v i = elim x'' [ ]

@@ -21,6 +21,7 @@ use Rattle.records.specs.Records.{State, in_round, had_of}
 use Rattle.records.proofs.Higher.{behind_iff, not_behind, in_round_stays, in_round_blank}
 use Rattle.records.proofs.Marks.{mark_round}
 use Rattle.waits.specs.Waits.{Waits, Lawful}
+use Rattle.std.specs.Prelude.{Ok}
 use Rattle.step.specs.declared.answers.Verdict.{Verdict}
 use Rattle.step.specs.declared.answers.Answer.{Answer}
 use Rattle.step.specs.declared.answers.Answer.TheVariants.{Old, Repeat}
@@ -120,9 +121,9 @@ module _ {w : Waits} (lawful : Lawful w) {c : Stage} {said : List Verdict} {s ro
   Then out l = Runs w (joined c m.to out) (verdict_in out.answer ++ said) s round l
 
   -- nothing changes
-  stays_runs : (a : Answer) → verdict_in a ≡ [] → Then (still r a) k
+  stays_runs : (a : Answer) → verdict_in (Ok a) ≡ [] → Then (still r (Ok a)) k
   stays_runs a e =
-      subst (λ (x : Stage). Runs w x (verdict_in a ++ said) s round k) (sym (still_joined c m.to a))
+      subst (λ (x : Stage). Runs w x (verdict_in (Ok a) ++ said) s round k) (sym (still_joined c m.to (Ok a)))
       (subst (λ (x : List Verdict). Runs w c (x ++ said) s round k) (sym e) runs)
 
   -- the node hasn't gone past the round, and its record in it is the course's
@@ -133,7 +134,7 @@ module _ {w : Waits} (lawful : Lawful w) {c : Stage} {said : List Verdict} {s ro
     same : in_round m.round r ≡ d.records m.to
     same = ap (λ (x : ℕ). in_round x r) at ∙ runs.kept m.to low
 
-    arrived : {b : Bool} → has (had_of m.kind (d.records m.to)) m.from ≡ b → reply w c m ≡ cond b (still r Repeat) (take o (d.records m.to) m)
+    arrived : {b : Bool} → has (had_of m.kind (d.records m.to)) m.from ≡ b → reply w c m ≡ cond b (still r (Ok Repeat)) (take o (d.records m.to) m)
     arrived e = arrives o r m now same (fits good.invariant good.sending m in_course) e
 
     before : In m.from (had_of m.kind (d.records m.to)) → Memᴰ m k

@@ -10,6 +10,8 @@ use Prim.Native.Nat.{ℕ}
 use native.Mathlib.Decide.{ℕ_discrete}
 use borrow.Author.Tests.{eq-eqb, ne_eqb}
 use Rattle.waits.specs.Waits.{Waits}
+use Rattle.std.specs.Prelude.{Result}
+use Rattle.waits.specs.declared.numbers.Refusal.{Refusal}
 use Rattle.step.specs.declared.answers.Verdict.{Verdict}
 use Rattle.step.specs.declared.answers.Answer.{Answer}
 use Rattle.rounds.specs.Verdicts.{verdict_in}
@@ -47,7 +49,7 @@ said_nothing w round (e ∷ l) h = said_else w round e l (h e (here refl)) ∙ s
 
 -- what is said in a round is the answer to an event of it
 pub said_by_lem : (w : Waits) (round : ℕ) (l : List Event) (v : Verdict) → Memᴰ v (verdicts_of w round l)
-    → (x : Event × Answer) × Memᴰ x (answers_of w l) × (round_of x.0 ≡ round) × Memᴰ v (verdict_in x.1)
+    → (x : Event × Result Answer Refusal) × Memᴰ x (answers_of w l) × (round_of x.0 ≡ round) × Memᴰ v (verdict_in x.1)
 unfolding verdicts_of
 said_by_lem w round [] v m = absurd (elim m [ ])
 said_by_lem w round (e ∷ l) v m =

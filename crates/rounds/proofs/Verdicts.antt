@@ -11,8 +11,9 @@ use Rattle.records.specs.Causes.{by_itself}
 use Rattle.records.specs.Messages.{Letter}
 use Rattle.records.specs.Records.{State, free}
 use Rattle.waits.specs.Waits.{Waits, Lawful}
+use Rattle.std.specs.Prelude.{None, Some}
 use Rattle.step.specs.declared.answers.Verdict.{Verdict}
-use Rattle.step.specs.declared.answers.Verdict.TheVariants.{NoVerdict, Deadlocked, NotDeadlocked}
+use Rattle.step.specs.declared.answers.Verdict.TheVariants.{Deadlocked, NotDeadlocked}
 use Rattle.step.specs.Step.{Seen, Outcome, seen_in, complete, newly, verdict_of, open_round}
 use Rattle.step.proofs.Taken.{take_answer, open_says, open_begins}
 use Rattle.rounds.specs.Course.{Stage, put, unheard, reply, after, Course, ended}
@@ -24,17 +25,14 @@ use Rattle.rounds.proofs.Ended.{all_had}
 
 -- of a node one verdict is right
 pub one_right : (w : Waits) (s : ℕ) (u v : Verdict) → Right w s u → Right w s v → u ≡ v
-one_right w s NoVerdict v p q = absurd p
-one_right w s Deadlocked NoVerdict p q = absurd q
 one_right w s Deadlocked Deadlocked p q = refl
 one_right w s Deadlocked NotDeadlocked p q = absurd (q p)
-one_right w s NotDeadlocked NoVerdict p q = absurd q
 one_right w s NotDeadlocked Deadlocked p q = absurd (p q)
 one_right w s NotDeadlocked NotDeadlocked p q = refl
 
 -- a free node's verdict, and another's
 abbrev pub by_free : Bool → List Verdict
-by_free f = given (cond f NotDeadlocked Deadlocked)
+by_free f = given (Some (cond f NotDeadlocked Deadlocked))
 
 -- the verdict on node i by its record, if it has all that it awaits
 abbrev pub ending_at : Waits → ℕ → State → List Verdict
@@ -42,12 +40,12 @@ ending_at w i t = cond (complete (seen_in w i) t) (by_free (free t)) []
 
 verdict_opener : (x : Bool) (t : State) → by_itself t.call ≡ true → given (verdict_of x t) ≡ cond x (by_free (free t)) []
 unfolding verdict_of
-verdict_opener true t e = ap (λ (b : Bool). given (cond b (cond (free t) NotDeadlocked Deadlocked) NoVerdict)) e
+verdict_opener true t e = ap (λ (b : Bool). given (cond b (Some (cond (free t) NotDeadlocked Deadlocked)) None)) e
 verdict_opener false t e = refl
 
 pub verdict_other : (x : Bool) (t : State) → by_itself t.call ≡ false → given (verdict_of x t) ≡ []
 unfolding verdict_of
-verdict_other true t e = ap (λ (b : Bool). given (cond b (cond (free t) NotDeadlocked Deadlocked) NoVerdict)) e
+verdict_other true t e = ap (λ (b : Bool). given (cond b (Some (cond (free t) NotDeadlocked Deadlocked)) None)) e
 verdict_other false t e = refl
 
 opening_verdict : (w : Waits) (s round : ℕ) → verdict_in (open_round (seen_in w s) round).answer ≡ ending_at w s (open_round (seen_in w s) round).state

@@ -1,10 +1,11 @@
 -- Many rounds: openings and deliveries one after the other, as the rules see them. Assumes nothing.
-use Rattle.std.specs.Prelude.{◌≡◌, false, cond, ℕ, suc, ◌<◌, eqb}
+use Rattle.std.specs.Prelude.{◌≡◌, false, cond, ℕ, suc, ◌<◌, eqb, Result}
 use mathlib.Core.List.{List, [], ◌∷◌, ◌++◌, Memᴰ}
 use Rattle.lemmas.specs.Lists.{those}
 use Rattle.records.specs.Rounds.{cannot_open}
 use Rattle.records.specs.Messages.{Letter}
 use Rattle.records.specs.Records.{in_round}
+use Rattle.waits.specs.declared.numbers.Refusal.{Refusal}
 use Rattle.waits.specs.Waits.{Waits}
 use Rattle.step.specs.declared.answers.Verdict.{Verdict}
 use Rattle.step.specs.declared.answers.Answer.{Answer}
@@ -65,12 +66,12 @@ abbrev pub of_round : ℕ → List Letter → List Letter
 of_round round = those (λ m. eqb m.round round)
 
 -- each event with what its node answered, the newest first
-abbrev pub answers_of : Waits → List Event → List (Event × Answer)
+abbrev pub answers_of : Waits → List Event → List (Event × Result Answer Refusal)
 answers_of w [] = []
 answers_of w (e ∷ l) = (e, (outcome w (since w l) e).answer) ∷ answers_of w l
 
 -- the verdicts among the answers to events of a round
-abbrev pub verdicts_among : ℕ → List (Event × Answer) → List Verdict
+abbrev pub verdicts_among : ℕ → List (Event × Result Answer Refusal) → List Verdict
 verdicts_among round [] = []
 verdicts_among round (x ∷ l) = cond (eqb (round_of x.0) round) (verdict_in x.1) [] ++ verdicts_among round l
 

@@ -1,8 +1,9 @@
 -- Many rounds are right: what is said of every history, in the paper's sentences. Assumes nothing.
-use Rattle.std.specs.Prelude.{◌≡◌, ◌⊎◌, ◌↔◌, ℕ, ◌+◌, ◌*◌, ◌≤◌, length}
+use Rattle.std.specs.Prelude.{◌≡◌, ◌⊎◌, ◌↔◌, ℕ, ◌+◌, ◌*◌, ◌≤◌, length, Result}
 use mathlib.Core.List.{List, [], ◌∷◌, Memᴰ}
 use Rattle.nodes.specs.Sets.{In}
 use Rattle.records.specs.Messages.{Letter}
+use Rattle.waits.specs.declared.numbers.Refusal.{Refusal}
 use Rattle.waits.specs.Waits.{Waits, edges}
 use Rattle.waits.specs.Deadlocked.{Reachable}
 use Rattle.deadlock.specs.Evidence.{Evidence}
@@ -20,7 +21,7 @@ pub record ManyRounds (w : Waits) (l : List Event) : Type 0 where
   pub newest : (highest_in l ≡ 0) ⊎ ((s : ℕ) × Opened l s (highest_in l))
   pub sent_opened : (m : Letter) → Memᴰ m (since w l).sent → (s : ℕ) × Opened l s m.round
   -- Only the node that opened a round gives a verdict in it. No round ever gives a false one, nor more than one.
-  pub opener : (e : Event) (a : Answer) → Memᴰ (e, a) (answers_of w l) → (v : Verdict) → Memᴰ v (verdict_in a) → Opened l (node_of e) (round_of e)
+  pub opener : (e : Event) (a : Result Answer Refusal) → Memᴰ (e, a) (answers_of w l) → (v : Verdict) → Memᴰ v (verdict_in a) → Opened l (node_of e) (round_of e)
   pub verdict_right : (s round : ℕ) → Opened l s round → (v : Verdict) → Memᴰ v (verdicts_of w round l) → Right w s v
   pub one_verdict : (round : ℕ) → length (verdicts_of w round l) ≤ 1
   -- If each message of the newest round has arrived at least once, that round has given its verdict.

@@ -1,5 +1,5 @@
 -- One round is right: what the paper says of a round, in its own sentences. Assumes nothing.
-use Rattle.std.specs.Prelude.{◌≡◌, true, false, cond, ◌⊎◌, ◌↔◌, ℕ, ◌+◌, ◌*◌, ◌≤◌, length}
+use Rattle.std.specs.Prelude.{◌≡◌, true, false, cond, ◌⊎◌, ◌↔◌, ℕ, ◌+◌, ◌*◌, ◌≤◌, length, Option, Ok}
 use mathlib.Core.List.{List, map, Memᴰ}
 use Rattle.lemmas.specs.Lists.{Once}
 use Rattle.nodes.specs.Sets.{In}
@@ -42,4 +42,4 @@ pub record OneRound (w : Waits) (s round : ℕ) (l : List Letter) (now : Stage) 
   -- Stray never happens to a message that was sent in the round, nor does old: it is a repeat if it was delivered before, and is
   -- taken if it wasn't.
   pub never_stray : (m : Letter) → Memᴰ m now.sent
-      → (((reply w now m).answer ≡ Repeat) × Memᴰ m l) ⊎ (((v : Verdict) × ((reply w now m).answer ≡ Taken v)) × (Memᴰ m l → ⊥))
+      → (((reply w now m).answer ≡ Ok Repeat) × Memᴰ m l) ⊎ (((v : Option Verdict) × ((reply w now m).answer ≡ Ok (Taken v))) × (Memᴰ m l → ⊥))

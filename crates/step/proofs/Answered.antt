@@ -6,20 +6,22 @@ use Rattle.records.specs.declared.causes.Why.TheVariants.{Itself}
 use Rattle.records.specs.Messages.{Letter}
 use Rattle.records.specs.Records.{State, blank_of, in_round, had_of, mark_of}
 use Rattle.records.specs.Rounds.{behind}
+use Rattle.std.specs.Prelude.{Option, Result, Ok}
+use Rattle.waits.specs.declared.numbers.Refusal.{Refusal}
 use Rattle.step.specs.declared.answers.Verdict.{Verdict}
 use Rattle.step.specs.declared.answers.Answer.{Answer}
 use Rattle.step.specs.declared.answers.Answer.TheVariants.{Old, Stray, Repeat, Taken, Opened}
 use Rattle.step.specs.Step.{Seen, be_called, react, settle, still, open_round, receive, arrive, take, stray as is_stray}
 
 -- it is so of each answer that isn't a refusal
-pub record Plain (P : Answer → Type 0) : Type 0 where
-  pub old : P Old
-  pub stray : P Stray
-  pub repeat : P Repeat
-  pub taken : (v : Verdict) → P (Taken v)
-  pub opened : (v : Verdict) → P (Opened v)
+pub record Plain (P : Result Answer Refusal → Type 0) : Type 0 where
+  pub old : P (Ok Old)
+  pub stray : P (Ok Stray)
+  pub repeat : P (Ok Repeat)
+  pub taken : (v : Option Verdict) → P (Ok (Taken v))
+  pub opened : (v : Option Verdict) → P (Ok (Opened v))
 
-module _ (P : Answer → Type 0) (p : Plain P) where
+module _ (P : Result Answer Refusal → Type 0) (p : Plain P) where
   pub open_answer : (o : Seen) (round : ℕ) → P (open_round o round).answer
   unfolding open_round
   open_answer o round = p.opened (settle o (blank_of round) (be_called o Itself (blank_of round))).verdict
@@ -32,7 +34,7 @@ module _ (P : Answer → Type 0) (p : Plain P) where
   unfolding receive arrive
   receive_answer o r m = go (behind m.round r.round) (is_stray o (in_round m.round r) m) (has (had_of m.kind (in_round m.round r)) m.from)
     where
-      go : (a b c : Bool) → P (cond a (still r Old) (cond b (still r Stray) (cond c (still r Repeat) (take o (in_round m.round r) m)))).answer
+      go : (a b c : Bool) → P (cond a (still r (Ok Old)) (cond b (still r (Ok Stray)) (cond c (still r (Ok Repeat)) (take o (in_round m.round r) m)))).answer
       go true b c = p.old
       go false true c = p.stray
       go false false true = p.repeat

@@ -19,6 +19,7 @@ use Rattle.records.specs.Messages.{Letter}
 use Rattle.records.specs.Records.{State, called, free, blank_of, in_round, had_of, mark_of}
 use Rattle.records.specs.Rounds.{behind, ahead}
 use Rattle.waits.specs.Waits.{Waits, Lawful}
+use Rattle.std.specs.Prelude.{Ok}
 use Rattle.step.specs.declared.answers.Answer.{Answer}
 use Rattle.step.specs.declared.answers.Answer.TheVariants.{Old, Stray, Repeat}
 use Rattle.step.specs.Step.{Seen, Outcome, still, seen_in, be_called, react, newly, settle, open_round, neighbours, expects, stray, take, arrive, receive}
@@ -119,25 +120,25 @@ module _ (o : Seen) (r : State) (m : Letter) where
 
   -- nothing is sent and the record stays
   abbrev pub Stays : Type 0
-  Stays = (a : Answer) × (receive o r m ≡ still r a)
+  Stays = (a : Answer) × (receive o r m ≡ still r (Ok a))
 
   -- it is taken, in the message's round, which isn't behind
   abbrev Takes : Type 0
   Takes = (receive o r m ≡ take o now m) × Fresh o now m × (behind m.round r.round ≡ false)
 
-  pub old : behind m.round r.round ≡ true → receive o r m ≡ still r Old
+  pub old : behind m.round r.round ≡ true → receive o r m ≡ still r (Ok Old)
   unfolding receive
   old e = rw e refl
 
   -- if it isn't, x being the record in its round
   pub arrives : {x : State} {a b : Bool} → behind m.round r.round ≡ false → now ≡ x → stray o x m ≡ a → has (had_of m.kind x) m.from ≡ b
-      → receive o r m ≡ cond a (still r Stray) (cond b (still r Repeat) (take o x m))
+      → receive o r m ≡ cond a (still r (Ok Stray)) (cond b (still r (Ok Repeat)) (take o x m))
   unfolding receive arrive
   arrives {x} n same e f =
       let started : receive o r m ≡ arrive o r now m = rw n refl in
       started
       ∙ ap (λ (y : State). arrive o r y m) same
-      ∙ ap₂ (λ (a b : Bool). cond a (still r Stray) (cond b (still r Repeat) (take o x m))) e f
+      ∙ ap₂ (λ (a b : Bool). cond a (still r (Ok Stray)) (cond b (still r (Ok Repeat)) (take o x m))) e f
 
   arrival : behind m.round r.round ≡ false → (a b : Bool) → stray o now m ≡ a → has (had_of m.kind now) m.from ≡ b → Takes ⊎ Stays
   arrival n true b e f = inr (Stray, arrives n refl e f)

@@ -13,6 +13,7 @@ use Rattle.records.specs.Causes.{by_itself}
 use Rattle.records.specs.Messages.{Letter}
 use Rattle.records.specs.Records.{State, called, free, blank_of, with_call, with_freed, had_of, mark_of}
 use Rattle.records.proofs.Marks.{blank_had}
+use Rattle.std.specs.Prelude.{Ok}
 use Rattle.step.specs.declared.answers.Answer.TheVariants.{Taken, Opened}
 use Rattle.step.specs.Step.{Seen, complete, be_called, react, newly, verdict_of, settle, open_round, take}
 use Rattle.step.proofs.Reacts.{called_cases, react_cases}
@@ -95,10 +96,10 @@ open_begins o round = begins o round
 
 -- ---- what is answered: a verdict goes with the step in which the node comes to be complete
 pub take_answer : (o : Seen) (s : State) (m : Letter)
-    → (take o s m).answer ≡ Taken (verdict_of (newly (complete o s) (complete o (take o s m).state)) (take o s m).state)
+    → (take o s m).answer ≡ Ok (Taken (verdict_of (newly (complete o s) (complete o (take o s m).state)) (take o s m).state))
 unfolding take settle
 take_answer o s m = refl
 
-pub open_says : (o : Seen) (round : ℕ) → (open_round o round).answer ≡ Opened (verdict_of (complete o (open_round o round).state) (open_round o round).state)
+pub open_says : (o : Seen) (round : ℕ) → (open_round o round).answer ≡ Ok (Opened (verdict_of (complete o (open_round o round).state) (open_round o round).state))
 unfolding open_round settle complete
 open_says o round = refl

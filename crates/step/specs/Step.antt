@@ -1,6 +1,6 @@
 -- How one node behaves: an opening, and a message that isn't refused. The rules stand in the order in which one needs the
 -- other; `open_round` and `receive`, at the end, are the whole step. Assumes nothing.
-use Rattle.std.specs.Prelude.{Bool, true, cond, not, ◌&&◌, ◌||◌, ℕ, eqb}
+use Rattle.std.specs.Prelude.{Bool, true, cond, not, ◌&&◌, ◌||◌, ℕ, eqb, Option, None, Some, Result, Ok}
 use Rattle.nodes.specs.Sets.{has, union, single, inside}
 use Rattle.records.specs.declared.causes.Why.{Why}
 use Rattle.records.specs.declared.causes.Why.TheVariants.{Itself, By}
@@ -10,9 +10,10 @@ use Rattle.records.specs.Causes.{by_itself, sender_of}
 use Rattle.records.specs.Rounds.{behind}
 use Rattle.records.specs.Messages.{Letter}
 use Rattle.records.specs.Records.{State, called, free, blank_of, in_round, with_call, with_freed, had_of, mark_of}
+use Rattle.waits.specs.declared.numbers.Refusal.{Refusal}
 use Rattle.waits.specs.Waits.{Waits, in_of}
 use Rattle.step.specs.declared.answers.Verdict.{Verdict}
-use Rattle.step.specs.declared.answers.Verdict.TheVariants.{NoVerdict, Deadlocked, NotDeadlocked}
+use Rattle.step.specs.declared.answers.Verdict.TheVariants.{Deadlocked, NotDeadlocked}
 use Rattle.step.specs.declared.answers.Answer.{Answer}
 use Rattle.step.specs.declared.answers.Answer.TheVariants.{Old, Stray, Repeat, Taken, Opened}
 
@@ -112,14 +113,14 @@ unfoldable pub owed : Bool → Why → ℕ
 owed now by = cond now (sender_of by) 0
 
 -- what the end of a round says: only its initiator says anything
-unfoldable pub verdict_of : Bool → State → Verdict
-verdict_of ended s = cond (ended && by_itself s.call) (cond (free s) NotDeadlocked Deadlocked) NoVerdict
+unfoldable pub verdict_of : Bool → State → Option Verdict
+verdict_of ended s = cond (ended && by_itself s.call) (Some (cond (free s) NotDeadlocked Deadlocked)) None
 
 -- What a step has done in the end.
 pub record End : Type 0 where
   pub state : State
   pub sends : Receivers
-  pub verdict : Verdict
+  pub verdict : Option Verdict
 
 -- What was held back: ACK to the freer in the step in which the node comes to be acked; DONE to the caller, or an initiator's
 -- verdict, in the step in which it comes to be complete.
@@ -139,13 +140,13 @@ settle o before m = record {
 pub record Outcome : Type 0 where
   pub state : State
   pub sends : Receivers
-  pub answer : Answer
+  pub answer : Result Answer Refusal
 
-abbrev pub saying : (Verdict → Answer) → End → Outcome
-saying say e = record { state = e.state; sends = e.sends; answer = say e.verdict }
+abbrev pub saying : (Option Verdict → Answer) → End → Outcome
+saying say e = record { state = e.state; sends = e.sends; answer = Ok (say e.verdict) }
 
 -- the record stays, and nothing is sent
-abbrev pub still : State → Answer → Outcome
+abbrev pub still : State → Result Answer Refusal → Outcome
 still s answer = record { state = s; sends = nobody; answer = answer }
 
 -- An initiator starts from a blank record in the new round, and is called by itself: nobody awaits its DONE.
@@ -177,10 +178,10 @@ take o s m = saying Taken (settle o s (react o m.from (mark_of m.kind m.from s) 
 -- A message of the record's round or a higher one, s being the record in that round and r the record as it was.
 unfoldable pub arrive : Seen → State → State → Letter → Outcome
 arrive o r s m =
-    cond (stray o s m) (still r Stray)
-    (cond (has (had_of m.kind s) m.from) (still r Repeat)
+    cond (stray o s m) (still r (Ok Stray))
+    (cond (has (had_of m.kind s) m.from) (still r (Ok Repeat))
     (take o s m))
 
 -- What a delivery is: old, stray, a repeat or taken, the first that fits; all but taken change nothing.
 unfoldable pub receive : Seen → State → Letter → Outcome
-receive o r m = cond (behind m.round r.round) (still r Old) (arrive o r (in_round m.round r) m)
+receive o r m = cond (behind m.round r.round) (still r (Ok Old)) (arrive o r (in_round m.round r) m)

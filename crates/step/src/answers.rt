@@ -9,63 +9,62 @@ use crate::sends::{Sends, nobody};
 use records::Record;
 use waits::Refusal;
 
-// What a step says of its round: nothing while it is open, or how it ended.
-#[derive(Clone, Copy)]
+// How a round ended. While it is open, a step says nothing of it.
+#[derive(Clone, Copy, Debug, PartialEq, Eq)]
 pub enum Verdict {
-    NoVerdict,
     Deadlocked,
     NotDeadlocked,
 }
 
-#[derive(Clone, Copy)]
+// What a call that isn't refused comes to.
+#[derive(Clone, Copy, Debug, PartialEq, Eq)]
 pub enum Answer {
-    Refused(Refusal),
     Old,
     Stray,
     Repeat,
-    Taken(Verdict),
-    Opened(Verdict),
+    Taken(Option<Verdict>),
+    Opened(Option<Verdict>),
 }
 
 // The next record, who is sent what, and the answer.
-#[derive(Clone, Copy)]
+#[derive(Clone, Copy, Debug, PartialEq, Eq)]
 pub struct Stepped {
     pub state: Record,
     pub sends: Sends,
-    pub answer: Answer,
+    pub answer: Result<Answer, Refusal>,
 }
 
-fn verdict_code(v: Verdict) -> u64
+fn verdict_code(v: Option<Verdict>) -> u64
     ensures { result ≡ verdict_code v }
 {
     match v {
-        Verdict::NoVerdict => 0,
-        Verdict::Deadlocked => 1,
-        Verdict::NotDeadlocked => 2,
+        None => 0,
+        Some(Verdict::Deadlocked) => 1,
+        Some(Verdict::NotDeadlocked) => 2,
     }
 }
 
 // The number by which an answer is known outside.
-pub fn code(answer: Answer) -> u64
+pub fn code(answer: Result<Answer, Refusal>) -> u64
     ensures { result ≡ code_of answer }
 {
     match answer {
-        Answer::Refused(r) => r.number,
-        Answer::Old => 100,
-        Answer::Stray => 101,
-        Answer::Repeat => 102,
-        Answer::Taken(v) => 110 + verdict_code(v),
-        Answer::Opened(v) => 120 + verdict_code(v),
+        Err(r) => r.number,
+        Ok(Answer::Old) => 100,
+        Ok(Answer::Stray) => 101,
+        Ok(Answer::Repeat) => 102,
+        Ok(Answer::Taken(v)) => 110 + verdict_code(v),
+        Ok(Answer::Opened(v)) => 120 + verdict_code(v),
     }
 }
 
 // The record stays and nothing is sent.
-pub fn still(r: Record, answer: Answer) -> Stepped
+pub fn still(r: Record, answer: Result<Answer, Refusal>) -> Stepped
     ensures { outcome_of result ≡ still_of (state_of r) answer }
 {
     Stepped {
         state: r,
         sends: nobody(),
-        answer: answer,
+        answer,
     }
 }

@@ -10,7 +10,7 @@ use nodes::{Node, Set};
 use records::{Cause, Record};
 use waits::{Row, holds, out_of};
 
-#[derive(Clone, Copy)]
+#[derive(Clone, Copy, Debug, PartialEq, Eq)]
 pub struct Own {
     pub me: Node,
     pub row: Row,
@@ -21,59 +21,37 @@ pub struct Own {
 pub fn active(own: Own) -> bool
     ensures { result ≡ active_of (seen_of own) }
 {
-    let row = own.row;
-    holds(row, Set::empty())
+    holds(own.row, Set::empty())
 }
 
 // Whether ACK is in from all IN of a free node.
+#[tactic(auto, unfolding(crate::specs::Step::acked))]
 pub fn acked(own: Own, r: Record) -> bool
     ensures { result ≡ acked_of (seen_of own) (state_of r) }
 {
-    let freed = r.freed;
-    let ins = own.ins;
-    let ack = r.ack;
-    if !freed.happened() {
-        return false;
-    }
-    ins.inside(ack)
+    r.freed.happened() && own.ins.inside(r.ack)
 }
 
 // Whether all is in that a called node awaits.
+#[tactic(auto, unfolding(crate::specs::Step::complete))]
 pub fn complete(own: Own, r: Record) -> bool
     ensures { result ≡ complete_of (seen_of own) (state_of r) }
 {
-    let call = r.call;
-    let row = own.row;
-    let ins = own.ins;
-    if !call.happened() {
-        return false;
-    }
-    if !out_of(row).inside(r.done) {
-        return false;
-    }
-    if !active(own) {
-        return true;
-    }
-    ins.inside(r.ack)
+    r.call.happened() && out_of(own.row).inside(r.done) && (!active(own) || own.ins.inside(r.ack))
 }
 
 // Whether something came about in a step.
 pub fn newly(before: bool, after: bool) -> bool
     ensures { result ≡ newly_of before after }
 {
-    if before {
-        return false;
-    }
-    after
+    !before && after
 }
 
 // Who now gets the answer that was held back.
+#[tactic(auto, unfolding(crate::specs::Step::owed))]
 pub fn owed(now: bool, by: Cause) -> Set
     requires { Fits (why_of by.0) }
     ensures { num result ≡ owed_of now (why_of by.0) }
 {
-    if !now {
-        return Set::empty();
-    }
-    by.sender()
+    if now { by.sender() } else { Set::empty() }
 }

@@ -7,7 +7,7 @@ ghost use Rattle.step.specs.Views.{receivers_of};
 use nodes::Set;
 use records::Kind;
 
-#[derive(Clone, Copy)]
+#[derive(Clone, Copy, Debug, PartialEq, Eq)]
 pub struct Sends {
     pub notify: Set,
     pub grant: Set,

@@ -26,32 +26,31 @@ pub struct Did {
 pub struct End {
     pub state: Record,
     pub sends: Sends,
-    pub verdict: Verdict,
+    pub verdict: Option<Verdict>,
 }
 
+#[tactic(auto, unfolding(crate::specs::Step::become_free))]
 fn become_free(own: Own, by: Cause, r: Record) -> Did
     ensures { move_of result ≡ become_free (seen_of own) (why_of by.0) (state_of r) }
 {
-    let ins = own.ins;
     Did {
         state: Record { freed: by, ..r },
-        sends: send(Kind::Grant, ins),
+        sends: send(Kind::Grant, own.ins),
     }
 }
 
+#[tactic(auto, unfolding(crate::specs::Step::be_called))]
 pub fn be_called(own: Own, by: Cause, r: Record) -> Did
     ensures { move_of result ≡ be_called (seen_of own) (why_of by.0) (state_of r) }
 {
-    let row = own.row;
-    let already = r.freed;
     let called = Record { call: by, ..r };
     if !active(own) {
         return Did {
             state: called,
-            sends: send(Kind::Notify, out_of(row)),
+            sends: send(Kind::Notify, out_of(own.row)),
         };
     }
-    if already.happened() {
+    if r.freed.happened() {
         return Did {
             state: called,
             sends: nobody(),
@@ -61,6 +60,7 @@ pub fn be_called(own: Own, by: Cause, r: Record) -> Did
 }
 
 // An answer that goes at once.
+#[tactic(auto, using(nodes::proofs::Operations::with_empty))]
 fn answer_with(kind: Kind, to: Node, r: Record) -> Did
     requires { to.0 < places }
     ensures { move_of result ≡ answer_with kind to.0 (state_of r) }
@@ -71,12 +71,12 @@ fn answer_with(kind: Kind, to: Node, r: Record) -> Did
     }
 }
 
+#[tactic(auto, unfolding(crate::specs::Step::on_notify))]
 fn on_notify(own: Own, from: Node, r: Record) -> Did
     requires { from.0 < places }
     ensures { move_of result ≡ on_notify (seen_of own) from.0 (state_of r) }
 {
-    let call = r.call;
-    if call.happened() {
+    if r.call.happened() {
         return answer_with(Kind::Done, from, r);
     }
     be_called(own, Cause::by(from), r)
@@ -86,15 +86,10 @@ fn on_notify(own: Own, from: Node, r: Record) -> Did
 fn frees(own: Own, r: Record) -> bool
     ensures { result ≡ frees_of (seen_of own) (state_of r) }
 {
-    let row = own.row;
-    let freed = r.freed;
-    let grant = r.grant;
-    if freed.happened() {
-        return false;
-    }
-    holds(row, grant)
+    !r.freed.happened() && holds(own.row, r.grant)
 }
 
+#[tactic(auto, unfolding(crate::specs::Step::on_grant))]
 fn on_grant(own: Own, from: Node, r: Record) -> Did
     requires { from.0 < places }
     ensures { move_of result ≡ on_grant (seen_of own) from.0 (state_of r) }
@@ -113,11 +108,7 @@ pub fn react(own: Own, kind: Kind, from: Node, r: Record) -> Did
     match kind {
         Kind::Notify => on_notify(own, from, r),
         Kind::Grant => on_grant(own, from, r),
-        Kind::Ack => Did {
-            state: r,
-            sends: nobody(),
-        },
-        Kind::Done => Did {
+        Kind::Ack | Kind::Done => Did {
             state: r,
             sends: nobody(),
         },
@@ -125,32 +116,27 @@ pub fn react(own: Own, kind: Kind, from: Node, r: Record) -> Did
 }
 
 // What the end of a round says: only its initiator says anything.
-fn verdict(ended: bool, r: Record) -> Verdict
+#[tactic(auto, unfolding(crate::specs::Step::verdict_of))]
+fn verdict(ended: bool, r: Record) -> Option<Verdict>
     ensures { result ≡ verdict_of ended (state_of r) }
 {
-    let call = r.call;
-    let freed = r.freed;
-    if !ended {
-        return Verdict::NoVerdict;
+    if !ended || !r.call.by_itself() {
+        return None;
     }
-    if !call.by_itself() {
-        return Verdict::NoVerdict;
+    if r.freed.happened() {
+        return Some(Verdict::NotDeadlocked);
     }
-    if freed.happened() {
-        return Verdict::NotDeadlocked;
-    }
-    Verdict::Deadlocked
+    Some(Verdict::Deadlocked)
 }
 
 // The answers that were held back, and the verdict, if what they wait for came in with this step.
+#[tactic(auto, unfolding(crate::specs::Step::settle))]
 pub fn settle(own: Own, before: Record, did: Did) -> End
     requires { Fitting (state_of did.state) }
     ensures { end_of result ≡ settle_of (seen_of own) (state_of before) (move_of did) }
 {
     let after = did.state;
     let sends = did.sends;
-    let ack = sends.ack;
-    let done = sends.done;
     let free = newly(acked(own, before), acked(own, after));
     let ended = newly(complete(own, before), complete(own, after));
     let freer = owed(free, after.freed);
@@ -158,8 +144,8 @@ pub fn settle(own: Own, before: Record, did: Did) -> End
     End {
         state: after,
         sends: Sends {
-            ack: ack.union(freer),
-            done: done.union(caller),
+            ack: sends.ack.union(freer),
+            done: sends.done.union(caller),
             ..sends
         },
         verdict: verdict(ended, after),

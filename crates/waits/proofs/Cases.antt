@@ -6,15 +6,13 @@ use Prim.Native.Nat.{ℕ, ◌+◌, ◌*◌, ◌≤◌, ◌<◌}
 use native.Mathlib.Numerals.{add-one}
 use lib.Dec.{ltb, eqb}
 use borrow.Author.Tests.{lt-ltb, le-ltb, ltb-false, eqb-true, not-false}
-use Rattle.std.specs.Prelude.{Result}
 use Rattle.lemmas.proofs.Tests.{or_left_false, or_right_false}
 use Rattle.nodes.specs.Sets.{has, size}
 use Rattle.nodes.specs.Words.{places}
 use Rattle.waits.specs.declared.rows.Row.{Row}
-use Rattle.waits.specs.declared.numbers.Refusal.{Refusal}
 use Rattle.waits.specs.Waits.{Waits, edges_to, edges}
 use Rattle.waits.specs.Rows.{row_size, row_at, out_of, waits_of}
-use Rattle.waits.specs.Numbers.{most_edges, strange_count, wrong_count, many_edges, check_row_of}
+use Rattle.waits.specs.Numbers.{most_edges, strange_count, wrong_count, many_edges}
 
 -- what a count that isn't strange says, and a right one
 pub count_fits : (n : ℕ) → strange_count n ≡ false → n ≤ places
@@ -46,8 +44,3 @@ many n rows q h = ap (ltb most_edges) (sym q) ∙ lt-ltb _ _ h
 pub few : (n : ℕ) (rows : List ℕ) {e : ℕ} → e ≡ edges (waits_of n rows) → e ≤ most_edges → many_edges n rows ≡ false
 unfolding many_edges
 few n rows q h = ap (ltb most_edges) (sym q) ∙ le-ltb _ _ h
-
--- what the check of row k answered
-pub row_answer : (n k : ℕ) (rows : List ℕ) {row : Row} {r x : Result Unit Refusal} → r ≡ check_row_of n k row → row ≡ row_at rows k → r ≡ x
-    → check_row_of n k (row_at rows k) ≡ x
-row_answer n k rows e f h = sym (e ∙ ap (check_row_of n k) f) ∙ h

@@ -11,6 +11,7 @@ use Rattle.std.specs.Prelude.{Result, Ok, Err}
 use Rattle.waits.specs.declared.numbers.Refusal.{Refusal}
 use Rattle.waits.specs.Rows.{row_at}
 use Rattle.waits.specs.Numbers.{Line, line, wrong_count, many_edges, row_lines, rows_lines, first_said, check_row_of, check_of}
+use Rattle.waits.proofs.Cases.{right_count, many, few}
 use Rattle.waits.proofs.Table.{or_else, said_append}
 
 -- number 8, the last line; and the answer of the lines of m rows from k on and of that one
@@ -59,3 +60,6 @@ module _ (n : ℕ) (rows : List ℕ) where
   pub ended : {b : Bool} (k : ℕ) → k ≡ n → Left n rows k → many_edges n rows ≡ b → cond b (Err (line 8 0 true).gives) (Ok tt) ≡ check_of n rows
   ended k e left f =
       sym (left ∙ ap (said_from n rows k) (ap (λ (j : ℕ). n - j) e ∙ sub_self n) ∙ ap (λ (b : Bool). cond b (Err (line 8 0 true).gives) (Ok tt)) f)
+
+-- what the check cites, at each step and at the end
+pub ruleset checking = (right_count, miscounted, begun, passed, stopped, many, few, ended)

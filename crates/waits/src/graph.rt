@@ -33,6 +33,7 @@ impl<'a> Graph<'a> {
     }
 
     // IN: every node that has j in OUT.
+    #[tactic(auto, unfolding(crate::specs::Waits::in_of), using(nodes::proofs::Gather::gather_none))]
     pub fn in_of(self, j: Node) -> Set
         ensures { num result ≡ in_of (waits_of self.entry.nodes self.entry.rows.now) j.0 }
     {
@@ -46,6 +47,7 @@ impl<'a> Graph<'a> {
     }
 
     // How many edges there are: members of OUT.
+    #[tactic(auto, unfolding(crate::specs::Waits::edges), using(crate::proofs::Cases::edges_none, crate::proofs::Cases::edges_suc))]
     pub fn edges(self) -> u64
         ensures { result ≡ waits_edges (waits_of self.entry.nodes self.entry.rows.now) }
     {

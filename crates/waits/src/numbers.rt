@@ -53,6 +53,7 @@ fn wrong_threshold(row: Row) -> bool
 }
 
 // Number 6.
+#[tactic(auto, unfolding(crate::specs::Numbers::extra_set))]
 fn extra_set(row: Row) -> bool
     ensures { result ≡ extra_set row }
 {
@@ -116,6 +117,7 @@ pub fn check_row(nodes: usize, k: Node, row: Row) -> Result<(), Refusal>
 }
 
 // The first number that the graph gets, with its row.
+#[tactic(auto, using(crate::proofs::Left::checking))]
 pub fn check(nodes: usize, rows: &[u64]) -> Result<(), Refusal>
     ensures { result ≡ check_of nodes rows.now }
 {
@@ -135,6 +137,7 @@ pub fn check(nodes: usize, rows: &[u64]) -> Result<(), Refusal>
 
 impl<'a> Graph<'a> {
     // The graph, or the first number that it gets.
+    #[tactic(auto, using(crate::proofs::Table::accepted_shaped))]
     pub fn checked(nodes: usize, rows: &'a [u64]) -> Result<Graph<'a>, Refusal>
         ensures { GraphSays (check_of nodes rows.now) nodes rows.now result }
     {

@@ -22,6 +22,7 @@ pub struct Row {
 }
 
 // The row of node k.
+#[tactic(auto, unfolding(crate::specs::Rows::row_at))]
 pub fn row_at(rows: &[u64], k: Node) -> Row
     requires { k.0 * row_size + row_size ≤ length rows.now }
     ensures { result ≡ row_at rows.now k.0 }
@@ -38,6 +39,7 @@ pub fn row_at(rows: &[u64], k: Node) -> Row
 }
 
 // Stores the row of node k.
+#[tactic(auto, unfolding(crate::specs::Rows::row_numbers, nodes::specs::Words::num))]
 pub fn put_row(rows: &mut [u64], k: Node, row: Row)
     requires { k.0 * row_size + row_size ≤ length rows.old }
     ensures { rows.new ≡ sets rows.old (k.0 * row_size) (row_numbers row) }
@@ -86,6 +88,7 @@ fn some_lies_in(row: Row, g: Set) -> bool
 }
 
 // Whether the condition holds when the nodes of g have granted.
+#[tactic(auto, unfolding(crate::specs::Rows::holds_of))]
 pub fn holds(row: Row, g: Set) -> bool
     ensures { result ≡ holds_of row (num g) }
 {

@@ -1,17 +1,14 @@
 -- `strange_messages` meets its contract. Assumes nothing.
-use mathlib.Core.Path.{refl}
-use borrow.Author.Rules.{rules}
-use Rattle.bench.proofs.Made.{message_found, message_passed, messages_passed}
+use Rattle.bench.specs.Strange.{strange_messages}
+use Rattle.lemmas.proofs.Any.{any_found, any_ended}
+use Rattle.lemmas.proofs.Cases.{flag}
 use Rattle.bench.proofs.checks.strange_messages.Goals as goal
 
-pub loop-k-init : goal.loop-k-init
-loop-k-init c = (search rules, refl)
-
 pub returns-then-strange_message_on : goal.returns-then-strange_message_on
-returns-then-strange_message_on c = message_found _ _ _ _ c.requires _ c.loop-k.invariant.1 c.loop-k-test.true c.message_of.ensures c.strange_message_on.ensures c.if-strange_message_on.true
-
-pub loop-k-preserved : goal.loop-k-preserved
-loop-k-preserved c = (search rules, message_passed _ _ _ _ c.requires _ c.loop-k.invariant.1 c.loop-k-test.true c.message_of.ensures c.strange_message_on.ensures c.if-strange_message_on.false)
+unfolding strange_messages
+returns-then-strange_message_on c =
+    any_found _ _ _ c.loop-x.invariant c.loop-x-test.true (flag (rw c.message_of.ensures at c.strange_message_on.ensures) c.if-strange_message_on.true)
 
 pub returns : goal.returns
-returns c = messages_passed _ _ _ _ c.requires _ c.loop-k.invariant.1 c.loop-k-test.false
+unfolding strange_messages
+returns c = any_ended _ _ _ c.loop-x.invariant c.loop-x-test.false

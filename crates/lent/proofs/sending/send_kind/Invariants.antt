@@ -1,13 +1,12 @@
 -- `send_kind` meets its contract. Assumes nothing.
-use Prim.Native.Nat.{◌+◌, ◌≤◌}
-use lib.ListN.{length}
+use Rattle.std.proofs.Common.{◌≤◌}
 use Rattle.lent.proofs.Places.{Sending}
-use Rattle.nodes.specs.Sets.{size}
-use Rattle.nodes.specs.Words.{num}
+use Rattle.nodes.specs.Sets.{members}
+use Rattle.nodes.specs.Words.{num, to_come}
 use Rattle.lent.proofs.sending.send_kind.Given as goal
 
 abbrev pub invariant-loop-k : goal.invariant-loop-k
-invariant-loop-k l = (l.first ≤ 1099511627776) × (l.at + size (num l.initial.left) ≤ length l.initial.messages) × Sending l.first l.at (num l.initial.left) l.initial.messages l.messages l.place (num l.left)
-
-abbrev pub decreases-loop-k : goal.decreases-loop-k
-decreases-loop-k l = size (num l.left)
+invariant-loop-k l = record {
+  first : l.first ≤ 1099511627776;
+  sending : Sending l.first l.at (members (num l.fn.to)) l.initial.messages l.messages l.place (to_come l.k-iterator);
+}

@@ -2,7 +2,6 @@
 use mathlib.Core.Path.{sym, ap}
 use Prim.Native.Nat.{ℕ, ◌<◌, ◌-◌}
 use native.Mathlib.Omega.{arith}
-use lib.Pow.{pow_pos}
 use Rattle.nodes.specs.Sets.{below}
 use Rattle.nodes.specs.Words.{num}
 use Rattle.nodes.proofs.Operations.{shl_one}
@@ -11,9 +10,6 @@ use Rattle.nodes.proofs.Set.below.Goals as goal
 pub returns-then-n-eq-PLACES : goal.returns-then-n-eq-PLACES
 unfolding below num
 returns-then-n-eq-PLACES c = sym (ap below c.if-n-eq-PLACES.true)
-
-pub overflow_sub-result : goal.overflow_sub-result
-overflow_sub-result c = let h : c.args.n < 64 = omega arith in omega (arith, shl_one 64 c.args.n h, pow_pos c.args.n)
 
 pub returns : goal.returns
 unfolding below num

@@ -5,9 +5,6 @@ use Rattle.nodes.specs.Words.{num}
 use Rattle.nodes.proofs.Size.{size_ones}
 use Rattle.nodes.proofs.Set.size.Goals as goal
 
-pub overflow_cast-result : goal.overflow_cast-result
-overflow_cast-result c = record { fits = omega (arith, ones-le 64 c.args.self.0 (omega arith)) }
-
 pub returns : goal.returns
 unfolding num
 returns c = (size_ones _, ones-le 64 _ (omega arith))

@@ -1,6 +1,5 @@
 -- `Set::smallest` meets its contract: the machine's count of the zeros below the lowest digit that is 1. Assumes nothing.
 use native.Mathlib.Omega.{arith}
-use lib.Count.{trailing_le}
 use borrow.Author.Tests.{eqb-true, eq-eqb}
 use Rattle.lemmas.proofs.Tests.{not_both}
 use Rattle.lemmas.proofs.Cases.{flag}
@@ -10,9 +9,6 @@ use Rattle.nodes.proofs.Set.smallest.Goals as goal
 
 pub returns-then-is_empty : goal.returns-then-is_empty
 returns-then-is_empty c = first_none _ (eqb-true _ _ (flag c.is_empty.ensures c.if-is_empty.true))
-
-pub overflow_cast-result : goal.overflow_cast-result
-overflow_cast-result c = let n = c.args.self.0 in record { fits = omega (arith, trailing_le 64 n) }
 
 pub returns : goal.returns
 unfolding num

@@ -2,11 +2,8 @@
 use mathlib.Core.Path.{sym, ◌∙◌}
 use native.Mathlib.Omega.{arith}
 use Rattle.nodes.specs.Words.{num, places}
-use Rattle.nodes.proofs.First.{first_place, first_rest, members_ended}
+use Rattle.nodes.proofs.First.{first_place, first_rest}
 use Rattle.nodes.proofs.Set.split_first.Goals as goal
-
-pub returns-in_err-k : goal.returns-in_err-k
-returns-in_err-k c = rw c.from_residual.ensures (members_ended _ (sym c.in_err-k.was ∙ c.smallest.ensures))
 
 pub with-requires : goal.with-requires
 unfolding num

@@ -2,11 +2,7 @@
 use Rattle.records.specs.Records.{state_of}
 use Rattle.step.specs.Views.{seen_of}
 use Rattle.step.proofs.Fits.{take_fits}
-use Rattle.step.proofs.Said.{takes}
 use Rattle.step.proofs.arrivals.take.Goals as goal
 
 pub settle-end-requires : goal.settle-end-requires
 settle-end-requires c = take_fits (seen_of c.args.own) (state_of c.args.r) c.args.m.from.0 c.kind_of-kind.result c.react-did.ensures c.mark.ensures c.requires.1 c.requires.0
-
-pub returns : goal.returns
-returns c = takes _ _ _ c.kind_of-kind.ensures c.mark.ensures c.react-did.ensures c.settle-end.ensures
