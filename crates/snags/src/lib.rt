@@ -7,6 +7,7 @@ ghost use Rattle.snags.specs.Snags.{snag_of, words_for, longest_words};
 
 use crate::finding::snag_in;
 use crate::words::words;
+use text::Text;
 
 mod finding;
 mod words;
@@ -28,6 +29,10 @@ pub fn snags(script: &[u8], room: &mut [u8]) -> usize
 {
     match snag_in(script) {
         Ok(()) => 0,
-        Err(snag) => words(room, snag),
+        Err(snag) => {
+            let mut out = Text::new(room);
+            words(&mut out, snag);
+            out.end
+        }
     }
 }
