@@ -97,9 +97,15 @@ pub fn fail<W: Write>(errors: &mut W, what: &[u8], why: Error) {
     let _ = write_all(errors, b"\n");
 }
 
+// The same behind a program's name.
+fn cannot<W: Write>(errors: &mut W, name: &[u8], what: &[u8], why: Error) {
+    let _ = write_all(errors, name);
+    fail(errors, what, why);
+}
+
 // What a program does that answers its input: it reads all of that into a room, writes what answers it, and then says behind its name what
 // is to be said of it, or what can't be done.
-pub fn answer_input<R, W, E, A, X>(
+pub fn answer_input<R: Read, W: Write, E: Write, A, X>(
     input: &mut R,
     output: &mut W,
     errors: &mut E,
@@ -111,9 +117,6 @@ pub fn answer_input<R, W, E, A, X>(
     explain: X,
 )
 where
-    R: Read,
-    W: Write,
-    E: Write,
     A: FnOnce(&[u8], &mut [u8]) -> usize,
     X: FnOnce(&[u8], usize, &mut [u8]) -> usize,
     requires answers { A.IsAlwaysCallable answer }
@@ -129,11 +132,7 @@ where
 {
     let length = match read_all(input, room) {
         Ok(length) => length,
-        Err(why) => {
-            let _ = write_all(errors, name);
-            fail(errors, b"standard input can't be read", why);
-            return;
-        }
+        Err(why) => return cannot(errors, name, b"standard input can't be read", why),
     };
     let end = answer(&room[..length], text);
     match write_all(output, &text[..end]) {
@@ -141,9 +140,6 @@ where
             let said = explain(&room[..length], end, words);
             say(errors, name, &words[..said]);
         }
-        Err(why) => {
-            let _ = write_all(errors, name);
-            fail(errors, b"the answer can't be written", why);
-        }
+        Err(why) => cannot(errors, name, b"the answer can't be written", why),
     }
 }
