@@ -8,11 +8,11 @@ use native.Mathlib.Omega.{arith}
 use lib.ListN.{length, take, length-replicate, length-append, drop_of_length-le}
 use lib.Seq.{sets, take-append-le, length-take-le}
 use borrow.Author.Tests.{le-ltb}
+use Rattle.std.specs.Prelude.{Result, Ok}
+use Rattle.waits.specs.declared.numbers.Refusal.{Refusal}
 use Rattle.lemmas.proofs.Cases.{at_false}
 use Rattle.lemmas.proofs.Stores.{in_front_lem, front_taken}
 use Rattle.nodes.specs.Words.{places}
-use Rattle.waits.specs.declared.numbers.Checked.{Checked}
-use Rattle.waits.specs.declared.numbers.Checked.TheVariants.{Accepted}
 use Rattle.lent.specs.Kept.{record_size, record_numbers}
 use Rattle.bench.specs.declared.calls.Ran.{Ran}
 use Rattle.bench.specs.Bench.{Bench, bench, fresh}
@@ -74,7 +74,7 @@ module _ (n : ℕ) (rows : List ℕ) (room : ℕ) (steps found : List ℕ) (enou
         let g = run_refused n rows (fresh n (zeros room)) steps (zeros (length steps)) (sym (both true _ s refl)) in
         let none : r.sent ≡ 0 = ap (λ (x : Run). x.bench.sent) f in
         record {
-          text = ap (λ (c : Checked). told_of c (take (length steps) answers) (take r.sent (messages ++ rest))) (ap (λ (x : Run). x.checked) f) ∙ sym (ap told g);
+          text = ap (λ (c : Result Unit Refusal). told_of c (take (length steps) answers) (take r.sent (messages ++ rest))) (ap (λ (x : Run). x.checked) f) ∙ sym (ap told g);
           listed = omega (arith, none);
         }
 
@@ -99,8 +99,8 @@ module _ (n : ℕ) (rows : List ℕ) (room : ℕ) (steps found : List ℕ) (enou
         record {
           text =
               (λ i. told_of (f i).checked (first i) (part i))
-              ∙ ap (λ (b : Bench). told_of Accepted (answers_on n rows b steps) (take (run_on n rows b steps).sent (run_on n rows b steps).messages)) same
-              ∙ ap (λ (l : List ℕ). told_of Accepted l (take (run_on n rows (fresh n (zeros room)) steps).sent (run_on n rows (fresh n (zeros room)) steps).messages))
+              ∙ ap (λ (b : Bench). told_of (Ok tt) (answers_on n rows b steps) (take (run_on n rows b steps).sent (run_on n rows b steps).messages)) same
+              ∙ ap (λ (l : List ℕ). told_of (Ok tt) l (take (run_on n rows (fresh n (zeros room)) steps).sent (run_on n rows (fresh n (zeros room)) steps).messages))
               (sym (subst (λ (b : Bench). sets (zeros (length steps)) 0 (answers_on n rows b steps) ≡ answers_on n rows b steps) same whole))
               ∙ sym (ap told g);
           listed = omega (arith, here, length-append messages rest);

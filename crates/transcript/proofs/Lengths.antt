@@ -9,6 +9,7 @@ use lib.Dec.{leb}
 use lib.ListN.{length, take, length-append, length-drop}
 use lib.Seq.{length-take-le}
 use borrow.Author.Tests.{leb-false}
+use Rattle.std.specs.Prelude.{Ok}
 use Rattle.lemmas.specs.Lists.{any_of}
 use Rattle.lemmas.proofs.Tests.{or_left_false, or_right_false}
 use Rattle.nodes.specs.Sets.{no_node}
@@ -17,7 +18,6 @@ use Rattle.records.specs.declared.messages.Message.{Message}
 use Rattle.records.specs.Rounds.{ahead}
 use Rattle.records.specs.Messages.{kinds, strange_message}
 use Rattle.records.proofs.Higher.{round_range}
-use Rattle.waits.specs.declared.numbers.Checked.TheVariants.{Accepted}
 use Rattle.waits.specs.Rows.{waits_of}
 use Rattle.step.specs.Answers.{code_of}
 use Rattle.lent.specs.Coded.{message_of}
@@ -115,9 +115,9 @@ module _ (s : Script) (few : length s.steps ≤ most) where
       let list = take ended.sent ended.messages in
       let long : length list ≡ ended.sent = length-take-le ended.sent ended.messages (sent_listed n s.rows ended sound) in
       let count = few_sent n s.rows ended sound in
-      let text : told (run_of n s.rows start s.steps places_for) ≡ told_of Accepted said list =
+      let text : told (run_of n s.rows start s.steps places_for) ≡ told_of (Ok tt) said list =
       ap told (run_taken n s.rows start s.steps places_for good (omega (arith, zeros_length (length s.steps))))
-      ∙ ap (λ (l : List ℕ). told_of Accepted l list) (filled (length s.steps) said (answers_length n s.rows s.steps start)) in
+      ∙ ap (λ (l : List ℕ). told_of (Ok tt) l list) (filled (length s.steps) said (answers_length n s.rows s.steps start)) in
       subst (λ (x : List ℕ). length x ≤ longest_text) (sym text)
       (omega (
         arith,

@@ -8,11 +8,10 @@ use lib.Seq.{length-take-le, length-sets}
 use Rattle.bench.specs.declared.calls.Ran.{Ran}
 use Rattle.bench.specs.Bench.{fresh}
 use Rattle.bench.specs.Runs.{run_of}
-use Rattle.text.specs.Text.{Text, write}
 use Rattle.lines.specs.Lines.{no_script_line}
 use Rattle.script.specs.declared.script.Shape.{Shape}
 use Rattle.std.specs.Prelude.{Option, Some, None}
-use Rattle.script.specs.Script.{most, most_numbers, Script, Meant, meant_by, steps_in, numbers_read, ParseSays}
+use Rattle.script.specs.Script.{most, most_numbers, Script, meant_by, steps_in, numbers_read, ParseSays}
 use Rattle.script.specs.Script.Meant.{IsScript}
 use Rattle.script.proofs.Settled.{Stands, parse_none, parse_script}
 use Rattle.transcript.specs.Transcript.{zeros, told_of, told, played, answered_by, transcript_of, BeginSays, script_at}
@@ -29,22 +28,20 @@ pub all_fit : (n : ℕ) → n ≤ length (zeros n)
 all_fit n = omega (arith, zeros_length n)
 
 -- ---- what is told is what was to be played
-pub played_as : (numbers steps : List ℕ) (h : Shape) (r : Ran) (rows messages answers : List ℕ) (t : Text) {u : Text} → h.steps ≤ length steps
+pub played_as : (numbers steps : List ℕ) (h : Shape) (r : Ran) (rows messages answers : List ℕ) → h.steps ≤ length steps
     → rows ≡ take h.rows (drop 2 numbers) → BeginSays h.nodes rows h.room (take h.steps steps) r messages answers
-    → u ≡ write t (told_of r.checked (take h.steps answers) (take r.sent messages)) → u ≡ write t (played (script_at numbers steps h))
+    → told_of r.checked (take h.steps answers) (take r.sent messages) ≡ played (script_at numbers steps h)
 unfolding played
-played_as numbers steps h r rows messages answers t l e says f =
-    f
-    ∙ ap (write t)
-    (ap (λ (k : ℕ). told_of r.checked (take k answers) (take r.sent messages)) (first_length h.steps steps l)
+played_as numbers steps h r rows messages answers l e says =
+    ap (λ (k : ℕ). told_of r.checked (take k answers) (take r.sent messages)) (first_length h.steps steps l)
     ∙ says.text
-    ∙ ap (λ (x : List ℕ). told (run_of h.nodes x (fresh h.nodes (zeros h.room)) (take h.steps steps) (zeros (length (take h.steps steps))))) e)
+    ∙ ap (λ (x : List ℕ). told (run_of h.nodes x (fresh h.nodes (zeros h.room)) (take h.steps steps) (zeros (length (take h.steps steps))))) e
 
 -- ---- what the parser found
 module _ (bytes numbers steps numbers' steps' : List ℕ) {p : Option Shape} (says : ParseSays bytes numbers steps numbers' steps' p) where
-  pub none_meant : (t : Text) {u : Text} → p ≡ None → u ≡ write t no_script_line → u ≡ write t (transcript_of bytes)
+  pub none_meant : p ≡ None → no_script_line ≡ transcript_of bytes
   unfolding transcript_of
-  none_meant t e f = f ∙ ap (λ (m : Meant). write t (answered_by m)) (sym (parse_none bytes numbers steps numbers' steps' (rw e at says)))
+  none_meant e = ap answered_by (sym (parse_none bytes numbers steps numbers' steps' (rw e at says)))
 
   module _ (m : most_numbers ≤ length numbers) (n : most ≤ length steps) (h : Shape) (e : p ≡ Some h) where
     found : (s : Script) × (meant_by bytes ≡ IsScript s) × Stands numbers' steps steps' s h
@@ -57,10 +54,10 @@ module _ (bytes numbers steps numbers' steps' : List ℕ) {p : Option Shape} (sa
         let j : length steps' ≡ length steps = ap length says.coded ∙ length-sets steps 0 (steps_in (meant_by bytes)) in
         (omega (arith, s.few_rows, i), s.small_room_lem, omega (arith, s.few_steps, j), s.few_steps)
 
-    pub some_meant : (t : Text) {u : Text} → u ≡ write t (played (script_at numbers' steps' h)) → u ≡ write t (transcript_of bytes)
+    pub some_meant : played (script_at numbers' steps' h) ≡ transcript_of bytes
     unfolding transcript_of
-    some_meant t f =
+    some_meant =
         let s = found.2 in
         let same : script_at numbers' steps' h ≡ found.0 =
         λ i. record { nodes = s.nodes i; rows = s.rows i; room = s.room i; steps = s.steps i } in
-        f ∙ ap (λ (x : Script). write t (played x)) same ∙ ap (λ (m : Meant). write t (answered_by m)) (sym found.1)
+        ap played same ∙ ap answered_by (sym found.1)

@@ -1,8 +1,7 @@
 -- A script in, a text out: its steps are taken on a fresh bench, and the text says what came of them. Assumes nothing.
-use Rattle.std.specs.Prelude.{◌≡◌, List, [], ◌∷◌, ◌++◌, ℕ, suc, ◌*◌, ◌≤◌, length, take, drop, replicate}
+use Rattle.std.specs.Prelude.{◌≡◌, List, [], ◌∷◌, ◌++◌, ℕ, suc, ◌*◌, ◌≤◌, length, take, drop, replicate, Result, Ok, Err}
 use Rattle.records.specs.declared.messages.Message.{Message}
-use Rattle.waits.specs.declared.numbers.Checked.{Checked}
-use Rattle.waits.specs.declared.numbers.Checked.TheVariants.{Accepted, Refused}
+use Rattle.waits.specs.declared.numbers.Refusal.{Refusal}
 use Rattle.lent.specs.Coded.{message_of}
 use Rattle.bench.specs.declared.calls.Ran.{Ran}
 use Rattle.bench.specs.Bench.{fresh}
@@ -24,9 +23,9 @@ message_lines k [] = []
 message_lines k (x ∷ l) = line_of k (message_of x) ++ message_lines (suc k) l
 
 -- a line for each answer and then one for each message, or the one line of a list that is refused as a whole
-unfoldable pub told_of : Checked → List ℕ → List ℕ → List ℕ
-told_of (Refused r) answers sent = refused_line r.number 0
-told_of Accepted answers sent = answer_lines answers ++ message_lines 0 sent
+unfoldable pub told_of : Result Unit Refusal → List ℕ → List ℕ → List ℕ
+told_of (Err r) answers sent = refused_line r.number 0
+told_of (Ok tt) answers sent = answer_lines answers ++ message_lines 0 sent
 
 abbrev pub told : Run → List ℕ
 told r = told_of r.checked r.answers (take r.bench.sent r.bench.messages)

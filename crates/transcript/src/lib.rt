@@ -3,7 +3,7 @@
 
 ghost use Rattle.std.specs.Prelude.{◌≡◌, ◌+◌, ◌≤◌, length, take};
 ghost use Rattle.lent.specs.Kept.{most_records};
-ghost use Rattle.text.specs.Text.{text, write};
+ghost use Rattle.text.specs.Text.{text, write, Wrote};
 ghost use Rattle.script.specs.Script.{most, longest};
 ghost use Rattle.transcript.specs.Transcript.{zeros, line_of, message_lines, told_of, BeginSays, script_at, played, transcript_of, longest_text};
 
@@ -12,7 +12,7 @@ use lent::{message_of, record_numbers, records_room};
 use nodes::Round;
 use records::Message;
 use script::{NUMBERS, STEPS, Shape, parse};
-use waits::Checked;
+use text::Text;
 
 // One byte more than a script may have, so that a longer one is seen to be too long.
 const SCRIPT: usize = 1_048_577;
@@ -35,49 +35,40 @@ pub fn text_room() -> [u8; TEXT]
 }
 
 // The line of message k.
-fn message(room: &mut [u8], at: usize, k: usize, m: Message) -> usize
-    ensures { text room.new result ≡ write (text room.old at) (line_of k m) }
+fn message(out: &mut Text, k: usize, m: Message)
+    ensures { Wrote out.old out.new (line_of k m) }
 {
-    let from = m.from;
-    let to = m.to;
-    let round = m.round;
     lines::message(
-        room,
-        at,
+        out,
         k as u64,
         m.kind,
-        from.0 as u64,
-        to.0 as u64,
-        round.0,
-    )
+        m.from.0 as u64,
+        m.to.0 as u64,
+        m.round.0,
+    );
 }
 
 // The lines of the messages sent.
-pub fn messages(room: &mut [u8], at: usize, list: &[u64], sent: usize) -> usize
+pub fn messages(out: &mut Text, list: &[u64], sent: usize)
     requires { sent ≤ length list.now }
-    ensures { text room.new result ≡ write (text room.old at) (message_lines 0 (take sent list.now)) }
+    ensures { Wrote out.old out.new (message_lines 0 (take sent list.now)) }
 {
-    let mut end = at;
-    let mut k: usize = 0;
-    while k < sent {
-        end = message(room, end, k, message_of(list[k]));
-        k += 1;
+    for k in 0..sent {
+        message(out, k, message_of(list[k]));
     }
-    end
 }
 
 // What is said of a list of steps.
-fn tell(room: &mut [u8], ran: Ran, answers: &[u64], steps: usize, list: &[u64]) -> usize
+fn tell(out: &mut Text, ran: Ran, answers: &[u64], steps: usize, list: &[u64])
     requires { (steps ≤ length answers.now) × (ran.sent ≤ length list.now) }
-    ensures { text room.new result ≡ write (text room.old 0) (told_of ran.checked (take steps answers.now) (take ran.sent list.now)) }
+    ensures { Wrote out.old out.new (told_of ran.checked (take steps answers.now) (take ran.sent list.now)) }
 {
-    let checked = ran.checked;
-    match checked {
-        Checked::Refused(r) => lines::refused(room, 0, r.number, 0),
-        Checked::Accepted => {
-            let end = lines::answers(room, 0, answers, steps);
-            messages(room, end, list, ran.sent)
+    match ran.checked {
+        Ok(()) => {
+            lines::answers(out, answers, steps);
+            messages(out, list, ran.sent);
         }
+        Err(r) => lines::refused(out, r.number, 0),
     }
 }
 
@@ -108,9 +99,9 @@ fn begin(
 }
 
 // Takes the steps of a script whose numbers and steps stand in lists, and says what came of them.
-fn play(room: &mut [u8], numbers: &[u64], steps: &[u64], shape: Shape) -> usize
+fn play(out: &mut Text, numbers: &[u64], steps: &[u64], shape: Shape)
     requires { (shape.rows + 2 ≤ length numbers.now) × (shape.room ≤ most) × (shape.steps ≤ length steps.now) × (shape.steps ≤ most) }
-    ensures { text room.new result ≡ write (text room.old 0) (played (script_at numbers.now steps.now shape)) }
+    ensures { Wrote out.old out.new (played (script_at numbers.now steps.now shape)) }
 {
     let mut records = records_room();
     let mut messages = [0u64; STEPS];
@@ -127,17 +118,26 @@ fn play(room: &mut [u8], numbers: &[u64], steps: &[u64], shape: Shape) -> usize
         &steps[..count],
         &mut answers,
     );
-    tell(room, ran, &answers, count, &messages)
+    tell(out, ran, &answers, count, &messages);
+}
+
+// What a script is answered with.
+fn answer(out: &mut Text, script: &[u8])
+    ensures { Wrote out.old out.new (transcript_of script.now) }
+{
+    let mut numbers = [0u64; NUMBERS];
+    let mut steps = [0u64; STEPS];
+    match parse(script, &mut numbers, &mut steps) {
+        None => lines::no_script(out),
+        Some(shape) => play(out, &numbers, &steps, shape),
+    }
 }
 
 // Writes the text that answers a script, as far as there is room, and says where it ends.
 pub fn transcript(script: &[u8], room: &mut [u8]) -> usize
     ensures { text room.new result ≡ write (text room.old 0) (transcript_of script.now) }
 {
-    let mut numbers = [0u64; NUMBERS];
-    let mut steps = [0u64; STEPS];
-    match parse(script, &mut numbers, &mut steps) {
-        None => lines::no_script(room, 0),
-        Some(shape) => play(room, &numbers, &steps, shape),
-    }
+    let mut out = Text::new(room);
+    answer(&mut out, script);
+    out.end
 }
