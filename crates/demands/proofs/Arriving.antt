@@ -12,8 +12,8 @@ use native.Mathlib.Omega.{arith}
 use lib.Dec.{ltb}
 use lib.ListN.{length}
 use lib.Seq.{length-sets}
+use Rattle.std.specs.Prelude.{Ok}
 use Rattle.lemmas.proofs.Cases.{both_branches}
-use Rattle.waits.specs.declared.numbers.Checked.TheVariants.{Accepted}
 use Rattle.waits.specs.Waits.{Waits, edges}
 use Rattle.waits.specs.Rows.{waits_of}
 use Rattle.waits.specs.Numbers.{check_of}
@@ -51,7 +51,7 @@ pub step_places : (n : ℕ) (rows : List ℕ) (b : Bench) → Good n rows b → 
 step_places n rows b good x =
     subst (λ (a : After). length a.bench.messages ≡ length b.messages) (step_taken n rows b good x) (way_places (waits_of n rows) b (step_way (waits_of n rows) b x))
 
-module _ (n : ℕ) (rows messages : List ℕ) (ok : check_of n rows ≡ Accepted) where
+module _ (n : ℕ) (rows messages : List ℕ) (ok : check_of n rows ≡ Ok tt) where
   abbrev now : List Step → Bench
   now = after_steps n rows (fresh n messages)
 

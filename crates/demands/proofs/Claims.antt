@@ -7,20 +7,19 @@ use mathlib.Core.List.{List, Memᴰ}
 use Prim.Native.Nat.{ℕ, ◌≤◌}
 use lib.Dec.{eqb}
 use borrow.Author.Tests.{not-true, eqb-false, ne_eqb, leb-true, le-leb}
+use Rattle.std.specs.Prelude.{Result, Ok, Err, Bool, false}
+use Rattle.waits.specs.declared.numbers.Refusal.{Refusal}
 use Rattle.lemmas.proofs.Tests.{and_intro, and_left, and_right}
 use Rattle.lemmas.proofs.Any.{any_some, some_any}
 use Rattle.nodes.specs.Sets.{Inside, meet, size}
 use Rattle.nodes.specs.Words.{num}
 use Rattle.nodes.proofs.Inside.{inside_of, of_inside}
-use Rattle.waits.specs.declared.numbers.Checked.TheVariants.{Accepted}
 use Rattle.waits.specs.Deadlocked.{Deadlocked}
 use Rattle.waits.specs.Rows.{row_at, sets_of, lies_in, waits_of}
 use Rattle.waits.proofs.Condition.{holds_0, holds_1, holds_2}
 use Rattle.waits.proofs.Table.{refused_not_accepted}
-use Rattle.deadlock.specs.declared.claims.Claim.{Claim}
-use Rattle.deadlock.specs.declared.claims.Claim.TheVariants.{Deadlocked as Claim-as-Deadlocked, NotDeadlocked as Claim-as-NotDeadlocked, Refused as Claim-as-Refused}
 use Rattle.deadlock.specs.declared.ring.Report.{Report}
-use Rattle.deadlock.specs.declared.ring.Report.TheVariants.{InRing, BehindRing, NotDeadlocked, Refused as Report-as-Refused}
+use Rattle.deadlock.specs.declared.ring.Report.TheVariants.{InRing, BehindRing, NotDeadlocked}
 use Rattle.deadlock.specs.Refusals.{check_node_of}
 use Rattle.deadlock.specs.Claims.{ClaimSays}
 use Rattle.deadlock.specs.Ring.{LeadsTo, ReportSays}
@@ -56,22 +55,22 @@ module _ (n : ℕ) (rows : List ℕ) (i : ℕ) where
   )
 
   -- ---- claims
-  pub claim_right : check_node_of n rows i ≡ Accepted → (c : Claim) → ClaimSays n rows i c → (c ≡ Claim-as-Deadlocked) ↔ Deadlocked (waits_of n rows) i
-  claim_right ok Claim-as-Deadlocked s = (λ e. s.1, λ d. refl)
-  claim_right ok Claim-as-NotDeadlocked s = (λ e. absurd (true≢false (cc e)), λ d. absurd (s.1 d))
-  claim_right ok (Claim-as-Refused r) s = absurd (refused_not_accepted (sym s ∙ ok))
+  pub claim_right : check_node_of n rows i ≡ Ok tt → (c : Result Bool Refusal) → ClaimSays n rows i c → (c ≡ Ok true) ↔ Deadlocked (waits_of n rows) i
+  claim_right ok (Ok true) s = (λ e. s.1, λ d. refl)
+  claim_right ok (Ok false) s = (λ e. absurd (true≢false (cc e)), λ d. absurd (s.1 d))
+  claim_right ok (Err r) s = absurd (refused_not_accepted (sym s ∙ ok))
 
-  pub ring_right : check_node_of n rows i ≡ Accepted → (x : Report) → ReportSays n rows i x → (x ≡ NotDeadlocked) ↔ (Deadlocked (waits_of n rows) i → ⊥)
-  ring_right ok InRing s = (λ e. absurd (true≢false (cc e)), λ d. absurd (d s.1))
-  ring_right ok BehindRing s = (λ e. absurd (true≢false (cc e)), λ d. absurd (d s.1))
-  ring_right ok NotDeadlocked s = (λ e. s.1, λ d. refl)
-  ring_right ok (Report-as-Refused r) s = absurd (refused_not_accepted (sym s ∙ ok))
+  pub ring_right : check_node_of n rows i ≡ Ok tt → (x : Result Report Refusal) → ReportSays n rows i x → (x ≡ Ok NotDeadlocked) ↔ (Deadlocked (waits_of n rows) i → ⊥)
+  ring_right ok (Ok InRing) s = (λ e. absurd (true≢false (cc e)), λ d. absurd (d s.1))
+  ring_right ok (Ok BehindRing) s = (λ e. absurd (true≢false (cc e)), λ d. absurd (d s.1))
+  ring_right ok (Ok NotDeadlocked) s = (λ e. s.1, λ d. refl)
+  ring_right ok (Err r) s = absurd (refused_not_accepted (sym s ∙ ok))
 
-  pub ring_exactly : check_node_of n rows i ≡ Accepted → Deadlocked (waits_of n rows) i → (x : Report) → ReportSays n rows i x → (x ≡ InRing) ↔ LeadsTo (waits_of n rows) i i
-  ring_exactly ok d InRing s = (λ e. s.2, λ l. refl)
-  ring_exactly ok d BehindRing s = (λ e. absurd (true≢false (cc e)), λ l. absurd (s.2 l))
-  ring_exactly ok d NotDeadlocked s = absurd (s.1 d)
-  ring_exactly ok d (Report-as-Refused r) s = absurd (refused_not_accepted (sym s ∙ ok))
+  pub ring_exactly : check_node_of n rows i ≡ Ok tt → Deadlocked (waits_of n rows) i → (x : Result Report Refusal) → ReportSays n rows i x → (x ≡ Ok InRing) ↔ LeadsTo (waits_of n rows) i i
+  ring_exactly ok d (Ok InRing) s = (λ e. s.2, λ l. refl)
+  ring_exactly ok d (Ok BehindRing) s = (λ e. absurd (true≢false (cc e)), λ l. absurd (s.2 l))
+  ring_exactly ok d (Ok NotDeadlocked) s = absurd (s.1 d)
+  ring_exactly ok d (Err r) s = absurd (refused_not_accepted (sym s ∙ ok))
 
 -- Theorem: the second demand, each field by itself.
 pub demand_2 : (n : ℕ) (rows : List ℕ) (i : ℕ) → Demand2 n rows i

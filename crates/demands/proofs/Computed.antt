@@ -5,6 +5,7 @@ use mathlib.Core.Logic.{◌↔◌}
 use mathlib.Core.List.{List, [], ◌∷◌, Memᴰ}
 use Prim.Native.Nat.{ℕ, ◌+◌, ◌*◌, ◌<◌}
 use lib.ListN.{length}
+use Rattle.std.specs.Prelude.{Ok}
 use Rattle.lemmas.proofs.Tests.{same_test}
 use Rattle.nodes.specs.Sets.{In, has, with, inside, members, gather}
 use Rattle.nodes.proofs.Bit.{has_in, in_has}
@@ -13,7 +14,6 @@ use Rattle.nodes.proofs.Gather.{gather_in}
 use Rattle.nodes.proofs.Members.{members_in}
 use Rattle.records.specs.Messages.{Letter}
 use Rattle.records.specs.Records.{free}
-use Rattle.waits.specs.declared.numbers.Checked.TheVariants.{Accepted}
 use Rattle.waits.specs.Waits.{Waits, Lawful, edges}
 use Rattle.waits.specs.Deadlocked.{Reachable}
 use Rattle.waits.specs.Rows.{waits_of}
@@ -62,7 +62,7 @@ module _ (w : Waits) (lawful : Lawful w) (s : ℕ) (node : s < w.nodes)
         ∙ ap by_free free_or_not
 
 -- ---- a graph that is accepted
-module _ (n : ℕ) (rows : List ℕ) (ok : check_of n rows ≡ Accepted) where
+module _ (n : ℕ) (rows : List ℕ) (ok : check_of n rows ≡ Ok tt) where
   abbrev w : Waits
   w = waits_of n rows
 

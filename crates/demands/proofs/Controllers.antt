@@ -12,6 +12,8 @@ use native.Mathlib.Omega.{arith}
 use lib.Dec.{eqb}
 use lib.ListN.{length}
 use borrow.Author.Tests.{lt-leb, eq-eqb, ne_eqb}
+use Rattle.std.specs.Prelude.{Result, Ok}
+use Rattle.waits.specs.declared.numbers.Refusal.{Refusal}
 use Rattle.lemmas.proofs.Tests.{true_or_false, or_intro_left}
 use Rattle.nodes.specs.Sets.{no_node}
 use Rattle.nodes.specs.Words.{num}
@@ -22,7 +24,6 @@ use Rattle.records.specs.Messages.{Letter, kinds, kind_of, kind_number, letter_o
 use Rattle.records.specs.Records.{strange_record}
 use Rattle.records.proofs.Higher.{range_round, opens_iff}
 use Rattle.records.proofs.Among.{among_record}
-use Rattle.waits.specs.declared.numbers.Checked.TheVariants.{Accepted}
 use Rattle.waits.specs.Waits.{Waits, Lawful}
 use Rattle.waits.specs.Rows.{row_at, row_numbers, waits_of}
 use Rattle.waits.specs.Numbers.{check_of}
@@ -46,9 +47,9 @@ use Rattle.demands.proofs.Heard.{outcome_accepted}
 use Rattle.demands.proofs.Controller.{opens as opens_alone, takes}
 
 -- a verdict in an answer is among those of the answer's round
-among_verdicts : (l : List (Event × Answer)) (x : Event × Answer) → Memᴰ x l → (v : Verdict) → Memᴰ v (verdict_in x.1) → Memᴰ v (verdicts_among (round_of x.0) l)
+among_verdicts : (l : List (Event × Result Answer Refusal)) (x : Event × Result Answer Refusal) → Memᴰ x l → (v : Verdict) → Memᴰ v (verdict_in x.1) → Memᴰ v (verdicts_among (round_of x.0) l)
 among_verdicts (y ∷ l) x (here q) v i =
-    Memᴰ.append_left _ (subst (λ (z : Event × Answer). Memᴰ v (cond (eqb (round_of z.0) (round_of x.0)) (verdict_in z.1) [])) q
+    Memᴰ.append_left _ (subst (λ (z : Event × Result Answer Refusal). Memᴰ v (cond (eqb (round_of z.0) (round_of x.0)) (verdict_in z.1) [])) q
     (subst (λ (t : Bool). Memᴰ v (cond t (verdict_in x.1) [])) (sym (eq-eqb (round_of x.0) (round_of x.0) refl)) i))
 among_verdicts (y ∷ l) x (there h) v i = Memᴰ.append_right (cond (eqb (round_of y.0) (round_of x.0)) (verdict_in y.1) []) (among_verdicts l x h v i)
 among_verdicts [] x x4 v i = elim x4 [ ]
@@ -67,7 +68,7 @@ own_row : (n : ℕ) (rows : List ℕ) (i : ℕ) → i < n → OwnRow n rows i (r
 unfolding row_at row_numbers num
 own_row n rows i h = (h, refl, refl)
 
-module _ (n : ℕ) (rows : List ℕ) (ok : check_of n rows ≡ Accepted) where
+module _ (n : ℕ) (rows : List ℕ) (ok : check_of n rows ≡ Ok tt) where
   abbrev w : Waits
   w = waits_of n rows
 
@@ -104,8 +105,8 @@ module _ (n : ℕ) (rows : List ℕ) (ok : check_of n rows ≡ Accepted) where
         (omega (arith, records_low w lawful l h i)) last
 
     -- a message for another: it is old or stray
-    astray : (m : Letter) (i : ℕ) → (m.to ≡ i → ⊥) → (receive (seen_in w i) (now.records i) m ≡ still (now.records i) Old)
-        ⊎ (receive (seen_in w i) (now.records i) m ≡ still (now.records i) Stray)
+    astray : (m : Letter) (i : ℕ) → (m.to ≡ i → ⊥) → (receive (seen_in w i) (now.records i) m ≡ still (now.records i) (Ok Old))
+        ⊎ (receive (seen_in w i) (now.records i) m ≡ still (now.records i) (Ok Stray))
     unfolding stray
     astray m i d = elim (true_or_false (behind m.round (now.records i).round)) [
       | inl e ↦ inl (old (seen_in w i) (now.records i) m e)
@@ -138,8 +139,8 @@ module _ (n : ℕ) (rows : List ℕ) (ok : check_of n rows ≡ Accepted) where
       next_by_rules l (Event.arrives m) before (subst (λ (c : Stage). Memᴰ m c.sent) before.1 may.0, before.0)
 
   -- a node answers, and doesn't refuse
-  all_accepted : (l : List Event) (x : Event × Answer) → Memᴰ x (answers_of w l) → accepted x.1 ≡ true
-  all_accepted (e ∷ l) x (here q) = ap (λ (y : Event × Answer). accepted y.1) q ∙ outcome_accepted w (since w l) e
+  all_accepted : (l : List Event) (x : Event × Result Answer Refusal) → Memᴰ x (answers_of w l) → accepted x.1 ≡ true
+  all_accepted (e ∷ l) x (here q) = ap (λ (y : Event × Result Answer Refusal). accepted y.1) q ∙ outcome_accepted w (since w l) e
   all_accepted (e ∷ l) x (there i) = all_accepted l x i
   all_accepted [] x x3 = elim x3 [ ]
 
@@ -156,17 +157,17 @@ module _ (n : ℕ) (rows : List ℕ) (ok : check_of n rows ≡ Accepted) where
     all : ManyRounds w l
     all = many_rounds w lawful l history
 
-    answered : (x : Event × Answer) → Memᴰ x (answers n rows l) → Memᴰ x (answers_of w l)
-    answered x = subst (λ (k : List (Event × Answer)). Memᴰ x k) said
+    answered : (x : Event × Result Answer Refusal) → Memᴰ x (answers n rows l) → Memᴰ x (answers_of w l)
+    answered x = subst (λ (k : List (Event × Result Answer Refusal)). Memᴰ x k) said
 
     verdicts : (round : ℕ) → verdicts_among round (answers n rows l) ≡ verdicts_of w round l
     unfolding verdicts_of
     verdicts round = ap (verdicts_among round) said
 
-    opener : (e : Event) (a : Answer) → Memᴰ (e, a) (answers n rows l) → (v : Verdict) → Memᴰ v (verdict_in a) → Opened l (node_of e) (round_of e)
+    opener : (e : Event) (a : Result Answer Refusal) → Memᴰ (e, a) (answers n rows l) → (v : Verdict) → Memᴰ v (verdict_in a) → Opened l (node_of e) (round_of e)
     opener e a i = all.opener e a (answered (e, a) i)
 
-    right : (e : Event) (a : Answer) → Memᴰ (e, a) (answers n rows l) → (v : Verdict) → Memᴰ v (verdict_in a) → Right w (node_of e) v
+    right : (e : Event) (a : Result Answer Refusal) → Memᴰ (e, a) (answers n rows l) → (v : Verdict) → Memᴰ v (verdict_in a) → Right w (node_of e) v
     unfolding verdicts_of
     right e a i v j = all.verdict_right (node_of e) (round_of e) (opener e a i v j) v (among_verdicts (answers_of w l) (e, a) (answered (e, a) i) v j)
 
@@ -181,7 +182,7 @@ module _ (n : ℕ) (rows : List ℕ) (ok : check_of n rows ≡ Accepted) where
         )
 
     abbrev Astray : Stage → Letter → ℕ → Type 0
-    Astray c m i = (delivers n rows i (c.records i) m ≡ still (c.records i) Old) ⊎ (delivers n rows i (c.records i) m ≡ still (c.records i) Stray)
+    Astray c m i = (delivers n rows i (c.records i) m ≡ still (c.records i) (Ok Old)) ⊎ (delivers n rows i (c.records i) m ≡ still (c.records i) (Ok Stray))
 
     comes_astray : (m : Letter) → Memᴰ m (since w l).sent → (i : ℕ) → i < n → (m.to ≡ i → ⊥) → Astray (since w l) m i
     comes_astray m sent i node d = elim (astray l history m i d) [

@@ -4,7 +4,7 @@ use mathlib.Core.Logic.{◌⊎◌, inl, inr}
 use mathlib.Core.List.{List, Memᴰ}
 use Prim.Native.Nat.{ℕ, ◌*◌, ◌≤◌}
 use lib.ListN.{length}
-use Rattle.waits.specs.declared.numbers.Checked.TheVariants.{Accepted}
+use Rattle.std.specs.Prelude.{Ok}
 use Rattle.waits.specs.Waits.{edges}
 use Rattle.waits.specs.Rows.{waits_of}
 use Rattle.waits.specs.Numbers.{check_of}
@@ -28,7 +28,7 @@ use Rattle.demands.proofs.Rounds.{stands, rules, given, ends, evidence, room_eno
 use Rattle.demands.proofs.AtOnce.{on_bench}
 use Rattle.demands.proofs.Arriving.{can_arrive}
 
-module _ (n : ℕ) (rows messages : List ℕ) (steps : List Step) (ok : check_of n rows ≡ Accepted) where
+module _ (n : ℕ) (rows messages : List ℕ) (steps : List Step) (ok : check_of n rows ≡ Ok tt) where
   abbrev now : Bench
   now = after_steps n rows (fresh n messages) steps
 

@@ -8,7 +8,7 @@ use mathlib.Core.List.Memᴰ.{tail as there}
 use Prim.Native.Nat.{ℕ, ◌≤◌, ◌<◌}
 use native.Mathlib.Omega.{arith}
 use lib.ListN.{get_or}
-use Rattle.waits.specs.declared.numbers.Checked.TheVariants.{Accepted}
+use Rattle.std.specs.Prelude.{Ok}
 use Rattle.waits.specs.Waits.{Waits}
 use Rattle.waits.specs.Numbers.{check_of}
 use Rattle.step.specs.Step.{seen_in}
@@ -53,7 +53,7 @@ module _ {n : ℕ} {rows : List ℕ} {b : Bench} {l : List Event} {e : Event} wh
   next_kept (full h r) = all_kept b
   next_kept (taken next s more same) = record { more = more; same = same }
 
-module _ (n : ℕ) (rows messages : List ℕ) (ok : check_of n rows ≡ Accepted) where
+module _ (n : ℕ) (rows messages : List ℕ) (ok : check_of n rows ≡ Ok tt) where
   abbrev now : List Step → Bench
   now = after_steps n rows (fresh n messages)
 

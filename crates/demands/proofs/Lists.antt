@@ -4,7 +4,7 @@ use mathlib.Core.List.{List, [], ◌∷◌, ◌++◌, map, reverse, map-append, 
 use Prim.Native.Nat.{ℕ, ◌≤◌}
 use lib.ListN.{length}
 use lib.Seq.{sets}
-use Rattle.waits.specs.declared.numbers.Checked.TheVariants.{Accepted}
+use Rattle.std.specs.Prelude.{Ok}
 use Rattle.lent.specs.declared.steps.Step.{Step}
 use Rattle.lent.specs.Steps.{step_of}
 use Rattle.bench.specs.Bench.{Bench}
@@ -54,4 +54,4 @@ module _ (n : ℕ) (rows : List ℕ) where
   unfolding taken_singly
   as_a_list b good l answers h =
       run_taken n rows b l answers good h
-      ∙ ap₂ (λ (x : Bench) (y : List ℕ). run x (sets answers 0 y) Accepted) (run_singly l b) (answers_singly l b)
+      ∙ ap₂ (λ (x : Bench) (y : List ℕ). run x (sets answers 0 y) (Ok tt)) (run_singly l b) (answers_singly l b)

@@ -9,10 +9,10 @@ use Prim.Native.Nat.{ℕ, ◌<◌}
 use native.Mathlib.Omega.{arith}
 use lib.Dec.{eqb, leb}
 use borrow.Author.Tests.{leb-false, eqb-true, eq-eqb, ne_eqb}
+use Rattle.std.specs.Prelude.{Ok}
 use Rattle.lemmas.proofs.Cases.{and_rest}
 use Rattle.lemmas.proofs.Tests.{or_left_false}
 use Rattle.records.specs.Messages.{letter_of}
-use Rattle.waits.specs.declared.numbers.Checked.TheVariants.{Accepted}
 use Rattle.waits.specs.Numbers.{line, first_said, check_of}
 use Rattle.waits.proofs.Table.{accepted_silent}
 use Rattle.lent.specs.declared.steps.Step.{Step}
@@ -79,7 +79,7 @@ module _ (n : ℕ) (rows messages : List ℕ) (steps : List Step) where
       (accepted_silent (step_lines n rows b x) said (line NoStep 0 _) (there (there (there (here refl)))))))
 
   -- Theorem: a message that was delivered, and not refused, arrived in the history, whatever was sent after it.
-  pub arrived_heard : check_of n rows ≡ Accepted → (k : ℕ) → Arrived past k
+  pub arrived_heard : check_of n rows ≡ Ok tt → (k : ℕ) → Arrived past k
       → Memᴰ (Event.arrives (letter_at (after_steps n rows (fresh n messages) steps) k)) (heard past)
   arrived_heard ok k (t, i, e, q, f) =
       let sent : k < t.on.sent = let h = was_sent t i e f in omega (arith, q) in

@@ -8,11 +8,11 @@ use native.Mathlib.Omega.{arith}
 use lib.Dec.{eqb}
 use lib.ListN.{length}
 use borrow.Author.Tests.{eq-eqb}
+use Rattle.std.specs.Prelude.{Ok}
 use Rattle.lemmas.proofs.Those.{those_all}
 use Rattle.nodes.specs.Sets.{In}
 use Rattle.nodes.proofs.Inside.{same_nodes}
 use Rattle.records.specs.Messages.{Letter}
-use Rattle.waits.specs.declared.numbers.Checked.TheVariants.{Accepted}
 use Rattle.waits.specs.Waits.{Waits}
 use Rattle.waits.specs.Deadlocked.{Reachable}
 use Rattle.waits.specs.Rows.{waits_of}
@@ -31,7 +31,7 @@ use Rattle.demands.proofs.Shown.{round_count}
 use Rattle.demands.proofs.Rounds.{stands, rules, called_reachable, free_freed}
 use Rattle.demands.proofs.Demands.{demand_3}
 
-module _ (n : ℕ) (rows : List ℕ) (ok : check_of n rows ≡ Accepted) (s : ℕ) where
+module _ (n : ℕ) (rows : List ℕ) (ok : check_of n rows ≡ Ok tt) (s : ℕ) where
   abbrev w : Waits
   w = waits_of n rows
 

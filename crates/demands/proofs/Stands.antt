@@ -10,13 +10,13 @@ use native.Mathlib.Nat.{not-suc-le-zero, le_of_suc-le-suc}
 use native.Mathlib.Omega.{arith}
 use lib.ListN.{length, get_or, take, replicate, length-replicate, length-map}
 use lib.Seq.{length-take-le, get_or-take}
+use Rattle.std.specs.Prelude.{Ok}
 use Rattle.nodes.specs.Words.{num}
 use Rattle.records.specs.Messages.{Letter, letter_of}
 use Rattle.records.specs.Records.{State, blank_of}
 use Rattle.records.specs.Causes.{why_of}
 use Rattle.records.proofs.Higher.{not_ahead_itself}
 use Rattle.records.proofs.Among.{among_record, blank_among}
-use Rattle.waits.specs.declared.numbers.Checked.TheVariants.{Accepted}
 use Rattle.waits.specs.Rows.{waits_of}
 use Rattle.waits.specs.Numbers.{check_of}
 use Rattle.waits.proofs.Lawful.{accepted_lawful}
@@ -61,7 +61,7 @@ blank_fine : (n : ℕ) → strange_record_on n 0 (blank_of 0) ≡ false
 unfolding strange_record_on
 blank_fine n = ap₂ ◌||◌ (among_record n (blank_of 0) (omega arith) (blank_among n 0)) (not_ahead_itself 0)
 
-module _ (n : ℕ) (rows messages : List ℕ) (ok : check_of n rows ≡ Accepted) where
+module _ (n : ℕ) (rows messages : List ℕ) (ok : check_of n rows ≡ Ok tt) where
   fresh_sound : Sound n rows (fresh n messages)
   unfolding strange_messages
   fresh_sound = record {

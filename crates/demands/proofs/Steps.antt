@@ -8,10 +8,10 @@ use mathlib.Core.List.Memᴰ.{tail as there}
 use Prim.Native.Nat.{ℕ, ◌+◌, ◌≤◌, ◌<◌}
 use lib.Dec.{leb, ltb}
 use borrow.Author.Tests.{lt-leb}
+use Rattle.std.specs.Prelude.{Ok, Err}
 use Rattle.nodes.specs.Sets.{no_node}
 use Rattle.records.specs.Rounds.{last_round, behind, ahead, cannot_open}
 use Rattle.records.proofs.Higher.{behind_iff, ahead_iff, opens_iff}
-use Rattle.waits.specs.declared.numbers.Checked.TheVariants.{Accepted, Refused}
 use Rattle.waits.specs.Rows.{waits_of}
 use Rattle.waits.specs.Numbers.{line, first_said}
 use Rattle.waits.proofs.Table.{accepted_silent}
@@ -39,7 +39,7 @@ module _ (n : ℕ) (rows : List ℕ) (b : Bench) (s round : ℕ) where
       good (lt-leb n s h) ((opens_iff b.highest round).1 k) (step_says b n rows (opening s round))
     where
       go : (p q r t : Bool) → p ≡ false → q ≡ false → r ≡ false
-          → Says b tried (cond p (Refused (refusal 13)) (cond q (Refused (refusal 9)) (cond r (Refused (refusal 10)) (cond t (Refused (refusal 12)) Accepted))))
+          → Says b tried (cond p (Err (refusal 13)) (cond q (Err (refusal 9)) (cond r (Err (refusal 10)) (cond t (Err (refusal 12)) (Ok tt)))))
           → Unless12 tried
       go true q r t e f g x = absurd (true≢false e)
       go false true r t e f g x = absurd (true≢false f)
@@ -62,7 +62,7 @@ module _ (n : ℕ) (rows : List ℕ) (b : Bench) (k : ℕ) where
   delivers good h = go (strange_bench n rows b) (leb b.sent k) (ltb (room b) (b.sent + sends)) good (lt-leb b.sent k h) (step_says b n rows (delivery k))
     where
       go : (p q t : Bool) → p ≡ false → q ≡ false
-          → Says b (step_on n rows b (delivery k)) (cond p (Refused (refusal 13)) (cond (q || false) (Refused (refusal 11)) (cond t (Refused (refusal 12)) Accepted)))
+          → Says b (step_on n rows b (delivery k)) (cond p (Err (refusal 13)) (cond (q || false) (Err (refusal 11)) (cond t (Err (refusal 12)) (Ok tt))))
           → Unless12 (step_on n rows b (delivery k))
       go true q t e f x = absurd (true≢false e)
       go false true t e f x = absurd (true≢false f)

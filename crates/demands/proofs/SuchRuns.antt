@@ -10,8 +10,8 @@ use mathlib.Core.List.Memᴰ.{tail as there}
 use Prim.Native.Nat.{ℕ, ◌*◌, ◌≤◌, ◌<◌}
 use native.Mathlib.Omega.{arith}
 use lib.ListN.{length}
+use Rattle.std.specs.Prelude.{Ok}
 use Rattle.records.specs.Rounds.{last_round}
-use Rattle.waits.specs.declared.numbers.Checked.TheVariants.{Accepted}
 use Rattle.waits.specs.Waits.{edges}
 use Rattle.waits.specs.Rows.{waits_of}
 use Rattle.waits.specs.Numbers.{check_of}
@@ -38,7 +38,7 @@ module _ (n : ℕ) (rows : List ℕ) (b : Bench) where
   step_of (x ∷ l) t (there i) = there (step_of l t i)
   step_of [] t x' = elim x' [ ]
 
-module _ (n : ℕ) (rows : List ℕ) (ok : check_of n rows ≡ Accepted) (s round : ℕ) (node : s < n) (range : (0 < round) × (round ≤ last_round))
+module _ (n : ℕ) (rows : List ℕ) (ok : check_of n rows ≡ Ok tt) (s round : ℕ) (node : s < n) (range : (0 < round) × (round ≤ last_round))
     (messages : List ℕ) (enough : 4 * edges (waits_of n rows) ≤ room_of (length messages)) where
   abbrev start : Bench
   start = fresh n messages

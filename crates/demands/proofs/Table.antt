@@ -4,10 +4,10 @@ use mathlib.Core.Bool.{Bool, false, not, ◌&&◌}
 use mathlib.Core.List.{List, []}
 use Prim.Native.Nat.{ℕ}
 use lib.Dec.{lit<}
+use Rattle.std.specs.Prelude.{Ok}
 use Rattle.lemmas.specs.Lists.{any_of}
 use Rattle.nodes.specs.Sets.{set_of}
 use Rattle.nodes.proofs.Bit.{bit_empty, out_has}
-use Rattle.waits.specs.declared.numbers.Checked.TheVariants.{Accepted}
 use Rattle.waits.specs.Waits.{Waits}
 use Rattle.waits.specs.Deadlocked.{outside, passes}
 use Rattle.waits.specs.Deadlocked.Path.{edge, then}
@@ -29,10 +29,10 @@ nobody_passes : (w : Waits) (i : ℕ) → passes w i [] ≡ false
 unfolding passes set_of
 nobody_passes w i = ap (λ (b : Bool). b && not (any_of (λ j. w.holds j (outside w [])) [])) (out_has 0 i (bit_empty i))
 
-claim_lacking : (n : ℕ) (rows : List ℕ) (i : ℕ) → check_node_of n rows i ≡ Accepted → judged_of n rows i [] ≡ ClaimMissing
+claim_lacking : (n : ℕ) (rows : List ℕ) (i : ℕ) → check_node_of n rows i ≡ Ok tt → judged_of n rows i [] ≡ Ok ClaimMissing
 unfolding strange_entry
 claim_lacking n rows i ok =
-    sym (judged_as n rows i [] (list_fine n rows i [] ok refl refl)) ∙ (judgement_missing (waits_of n rows) i []).1 (λ m. elim m [ ])
+    sym (judged_as n rows i [] (list_fine n rows i [] ok refl refl)) ∙ ap Ok ((judgement_missing (waits_of n rows) i []).1 (λ m. elim m [ ]))
 
 -- Theorem: all that the paper says of these mornings is so.
 pub table : Table

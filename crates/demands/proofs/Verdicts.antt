@@ -6,13 +6,14 @@ use mathlib.Core.List.Memᴰ.{head as here}
 use mathlib.Core.List.Memᴰ.{tail as there}
 use Prim.Native.Nat.{ℕ}
 use lib.Dec.{eqb}
-use Rattle.waits.specs.declared.numbers.Checked.TheVariants.{Accepted}
+use Rattle.std.specs.Prelude.{Result, Ok, Err}
+use Rattle.waits.specs.declared.numbers.Refusal.{Refusal}
 use Rattle.waits.specs.Waits.{Waits}
 use Rattle.waits.specs.Rows.{waits_of}
 use Rattle.waits.specs.Numbers.{check_of}
 use Rattle.step.specs.declared.answers.Verdict.{Verdict}
 use Rattle.step.specs.declared.answers.Answer.{Answer}
-use Rattle.step.specs.declared.answers.Answer.TheVariants.{Refused, Old, Stray, Repeat, Taken, Opened}
+use Rattle.step.specs.declared.answers.Answer.TheVariants.{Old, Stray, Repeat, Taken, Opened}
 use Rattle.lent.specs.declared.steps.Step.{Step}
 use Rattle.bench.specs.Bench.{Bench, After, fresh}
 use Rattle.rounds.specs.Verdicts.{verdict_in}
@@ -43,13 +44,13 @@ module _ (n : ℕ) (rows : List ℕ) (l : List Event) (e : Event) (round : ℕ) 
       ∙ ap (λ (t : Bool). verdicts_of w round (cond t (e ∷ l) l)) (sym (outcome_accepted w (since w l) e))
 
 -- a refusal gives no verdict
-pub verdict_accepted : (a : Answer) (v : Verdict) → Memᴰ v (verdict_in a) → accepted a ≡ true
-verdict_accepted (Refused r) v i = absurd (elim i [ ])
-verdict_accepted Old v i = refl
-verdict_accepted Stray v i = refl
-verdict_accepted Repeat v i = refl
-verdict_accepted (Taken u) v i = refl
-verdict_accepted (Opened u) v i = refl
+pub verdict_accepted : (a : Result Answer Refusal) (v : Verdict) → Memᴰ v (verdict_in a) → accepted a ≡ true
+verdict_accepted (Err r) v i = absurd (elim i [ ])
+verdict_accepted (Ok Old) v i = refl
+verdict_accepted (Ok Stray) v i = refl
+verdict_accepted (Ok Repeat) v i = refl
+verdict_accepted (Ok (Taken u)) v i = refl
+verdict_accepted (Ok (Opened u)) v i = refl
 
 -- ---- what a turn answered, if it wasn't refused, is what the rules' node answered
 taken_answer : {n : ℕ} {rows : List ℕ} {b : Bench} {l : List Event} {e : Event} {a : After} → Onward n rows b l e a → accepted a.answer ≡ true
@@ -58,8 +59,8 @@ taken_answer (refused number h) f = absurd (true≢false (sym f))
 taken_answer (full h r) f = absurd (true≢false (sym f))
 taken_answer (taken next s more same) f = refl
 
-module _ (n : ℕ) (rows messages : List ℕ) (ok : check_of n rows ≡ Accepted) where
-  abbrev answers : List Step → List (Event × Answer)
+module _ (n : ℕ) (rows messages : List ℕ) (ok : check_of n rows ≡ Ok tt) where
+  abbrev answers : List Step → List (Event × Result Answer Refusal)
   answers steps = answers_of (waits_of n rows) (heard (turns n rows (fresh n messages) steps))
 
   abbrev Answered : List Step → Turn → Type 0
@@ -72,7 +73,7 @@ module _ (n : ℕ) (rows messages : List ℕ) (ok : check_of n rows ≡ Accepted
       subst (λ (b : Bool). Memᴰ (event_of t, t.gave.answer) (answers_of (waits_of n rows) (cond b (event_of t ∷ l) l))) (sym f)
       (here (λ j. (event_of t, taken_answer (step_onward (all_stand n rows messages ok steps) x) f j)))
 
-  older_answer : (steps : List Step) (x : Step) (y : Event × Answer) → Memᴰ y (answers steps) → Memᴰ y (answers (x ∷ steps))
+  older_answer : (steps : List Step) (x : Step) (y : Event × Result Answer Refusal) → Memᴰ y (answers steps) → Memᴰ y (answers (x ∷ steps))
   older_answer steps x y i = go (accepted (turn n rows (after_steps n rows (fresh n messages) steps) x).gave.answer)
     where
       go : (b : Bool) → Memᴰ y (answers_of (waits_of n rows)
@@ -86,7 +87,7 @@ module _ (n : ℕ) (rows messages : List ℕ) (ok : check_of n rows ≡ Accepted
   turn_answer [] t x' = elim x' [ ]
 
 -- ---- all verdicts from a fresh start
-module _ (n : ℕ) (rows messages : List ℕ) (ok : check_of n rows ≡ Accepted) (round : ℕ) where
+module _ (n : ℕ) (rows messages : List ℕ) (ok : check_of n rows ≡ Ok tt) (round : ℕ) where
   abbrev past : List Step → List Turn
   past = turns n rows (fresh n messages)
 

@@ -1,9 +1,8 @@
 -- One controller by itself: told its row and its IN, it does with its record what its node on a bench does; and what its opening says
 -- at once. Assumes nothing.
-use Rattle.std.specs.Prelude.{◌≡◌, List, ℕ, ◌≤◌, ◌<◌, length, get_or}
+use Rattle.std.specs.Prelude.{◌≡◌, List, ℕ, ◌≤◌, ◌<◌, length, get_or, Ok, Option}
 use Rattle.records.specs.Rounds.{last_round}
 use Rattle.records.specs.Records.{State}
-use Rattle.waits.specs.declared.numbers.Checked.TheVariants.{Accepted}
 use Rattle.waits.specs.Waits.{in_of}
 use Rattle.waits.specs.Rows.{row_size, row_at, waits_of}
 use Rattle.waits.specs.Numbers.{check_of}
@@ -33,7 +32,7 @@ pub record Alone (n : ℕ) (rows : List ℕ) : Type 0 where
       → deliver_of n i row (in_of (waits_of n rows) i) (state_at b.records i) (message_of (get_or b.messages k 0))
       ≡ receive (seen_in (waits_of n rows) i) (state_at b.records i) (letter_at b k)
   -- An opening says nothing at once, but of an active node that nobody waits on, whatever row and IN it is told.
-  pub at_once : (me : ℕ) (row : List ℕ) (ins : ℕ) (s : State) (round : ℕ) (v : Verdict) → (open_of n me row ins s round).answer ≡ Opened v
+  pub at_once : (me : ℕ) (row : List ℕ) (ins : ℕ) (s : State) (round : ℕ) (v : Option Verdict) → (open_of n me row ins s round).answer ≡ Ok (Opened v)
       → v ≡ said_at_once (own me row ins)
   -- Every bench that was worked from a fresh start, over an accepted graph, is one.
-  pub worked : check_of n rows ≡ Accepted → (messages : List ℕ) (steps : List Step) → Good n rows (after_steps n rows (fresh n messages) steps)
+  pub worked : check_of n rows ≡ Ok tt → (messages : List ℕ) (steps : List Step) → Good n rows (after_steps n rows (fresh n messages) steps)

@@ -1,12 +1,12 @@
 -- All controllers of a graph together, each by its own two calls, for as long as they run: no bench is here, and no end of room. What
 -- ../../../include/coldroom.h promises of them is shown in ../proofs/Controllers.antt. Assumes nothing.
-use Rattle.std.specs.Prelude.{◌≡◌, true, ◌⊎◌, ℕ, ◌≤◌, ◌<◌, length}
+use Rattle.std.specs.Prelude.{◌≡◌, true, ◌⊎◌, ℕ, ◌≤◌, ◌<◌, length, Result, Ok}
 use mathlib.Core.List.{List, [], ◌∷◌, Memᴰ}
+use Rattle.waits.specs.declared.numbers.Refusal.{Refusal}
 use Rattle.records.specs.declared.messages.Message.{Message}
 use Rattle.records.specs.Rounds.{last_round}
 use Rattle.records.specs.Messages.{Letter, kind_number}
 use Rattle.records.specs.Records.{State}
-use Rattle.waits.specs.declared.numbers.Checked.TheVariants.{Accepted}
 use Rattle.waits.specs.Waits.{Waits, in_of}
 use Rattle.waits.specs.Rows.{row_at, row_numbers, waits_of}
 use Rattle.waits.specs.Numbers.{check_of}
@@ -49,7 +49,7 @@ module _ (n : ℕ) (rows : List ℕ) where
   together (e ∷ l) = joined (together l) (node_of e) (call (together l) e)
 
   -- each event with what its call answered
-  abbrev pub answers : List Event → List (Event × Answer)
+  abbrev pub answers : List Event → List (Event × Result Answer Refusal)
   answers [] = []
   answers (e ∷ l) = (e, (call (together l) e).answer) ∷ answers l
 
@@ -63,12 +63,12 @@ module _ (n : ℕ) (rows : List ℕ) where
   pub record Together (l : List Event) : Type 0 where
     -- No call is refused: 13 is for what can't be, and what they keep and send can be. A message that has come to a controller which it
     -- isn't for changes nothing there.
-    pub not_refused : (e : Event) (a : Answer) → Memᴰ (e, a) (answers l) → accepted a ≡ true
+    pub not_refused : (e : Event) (a : Result Answer Refusal) → Memᴰ (e, a) (answers l) → accepted a ≡ true
     pub astray : (m : Letter) → Memᴰ m (together l).sent → (i : ℕ) → i < n → (m.to ≡ i → ⊥)
-        → (delivers i ((together l).records i) m ≡ still ((together l).records i) Old) ⊎ (delivers i ((together l).records i) m ≡ still ((together l).records i) Stray)
+        → (delivers i ((together l).records i) m ≡ still ((together l).records i) (Ok Old)) ⊎ (delivers i ((together l).records i) m ≡ still ((together l).records i) (Ok Stray))
     -- "no round gives a false verdict": only the controller that opened a round gives one in it, which is right of its node, and once at
     -- most.
-    pub no_false : (e : Event) (a : Answer) → Memᴰ (e, a) (answers l) → (v : Verdict) → Memᴰ v (verdict_in a)
+    pub no_false : (e : Event) (a : Result Answer Refusal) → Memᴰ (e, a) (answers l) → (v : Verdict) → Memᴰ v (verdict_in a)
         → Opened l (node_of e) (round_of e) × Right w (node_of e) v
     pub one_verdict : (round : ℕ) → length (verdicts_among round (answers l)) ≤ 1
     -- "and a round after which no other is opened gives the right one once each of its messages has arrived."
@@ -81,4 +81,4 @@ module _ (n : ℕ) (rows : List ℕ) where
 
 -- Over every accepted graph, whatever happens.
 abbrev pub AllControllers : Type 0
-AllControllers = (n : ℕ) (rows : List ℕ) → check_of n rows ≡ Accepted → (l : List Event) → MayHappen n rows l → Together n rows l
+AllControllers = (n : ℕ) (rows : List ℕ) → check_of n rows ≡ Ok tt → (l : List Event) → MayHappen n rows l → Together n rows l

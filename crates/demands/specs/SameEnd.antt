@@ -1,8 +1,7 @@
 -- The same end, whatever the order: two runs of one round each, over the same graph and from the same node. ../proofs/SameEnd.antt
 -- shows that they end alike, and ../proofs/SuchRuns.antt that there are such runs. Assumes nothing.
-use Rattle.std.specs.Prelude.{◌≡◌, List, [], ◌∷◌, ℕ, ◌*◌, ◌≤◌, ◌<◌, length}
+use Rattle.std.specs.Prelude.{◌≡◌, List, [], ◌∷◌, ℕ, ◌*◌, ◌≤◌, ◌<◌, length, Ok}
 use Rattle.records.specs.Rounds.{last_round}
-use Rattle.waits.specs.declared.numbers.Checked.TheVariants.{Accepted}
 use Rattle.waits.specs.Waits.{edges}
 use Rattle.waits.specs.Rows.{waits_of}
 use Rattle.waits.specs.Numbers.{check_of}
@@ -41,11 +40,11 @@ module _ (n : ℕ) (rows : List ℕ) where
 
 -- "Who called whom and the numbering may differ": neither is in what is the same, and the two rounds may have different numbers.
 abbrev pub WhateverTheOrder : Type 0
-WhateverTheOrder = (n : ℕ) (rows : List ℕ) → check_of n rows ≡ Accepted
+WhateverTheOrder = (n : ℕ) (rows : List ℕ) → check_of n rows ≡ Ok tt
     → (s : ℕ) (a b : Log) (p q : ℕ) → OneRoundFrom n rows s a p → OneRoundFrom n rows s b q → SameEnd n rows a b p q
 
 -- And there are such runs: from every node of every accepted graph, in a round of any number, in any room for four messages an edge.
 abbrev pub ThereAreSuchRuns : Type 0
-ThereAreSuchRuns = (n : ℕ) (rows : List ℕ) → check_of n rows ≡ Accepted → (s round : ℕ) → s < n → (0 < round) × (round ≤ last_round)
+ThereAreSuchRuns = (n : ℕ) (rows : List ℕ) → check_of n rows ≡ Ok tt → (s round : ℕ) → s < n → (0 < round) × (round ≤ last_round)
     → (messages : List ℕ) → 4 * edges (waits_of n rows) ≤ room_of (length messages)
     → (steps : List Step) × OneRoundFrom n rows s (record { messages = messages; steps = steps }) round

@@ -1,14 +1,14 @@
 -- A bench, one step after the other: what happened, and what is there. Assumes nothing.
-use Rattle.std.specs.Prelude.{◌≡◌, Bool, true, false, cond, ◌⊎◌, ℕ, ◌+◌, ◌*◌, ◌<◌, eqb, take, drop}
+use Rattle.std.specs.Prelude.{◌≡◌, Bool, true, false, cond, ◌⊎◌, ℕ, ◌+◌, ◌*◌, ◌<◌, eqb, take, drop, Result, Ok, Err}
 use mathlib.Core.List.{List, [], ◌∷◌, ◌++◌, map, reverse, Memᴰ}
 use Rattle.std.proofs.lemmas.List.Edits.{sets}
+use Rattle.waits.specs.declared.numbers.Refusal.{Refusal}
 use Rattle.lemmas.specs.Lists.{those}
 use Rattle.nodes.specs.Sets.{minus, members, gather}
 use Rattle.records.specs.Records.{called, free, in_round}
-use Rattle.waits.specs.declared.numbers.Checked.TheVariants.{Accepted}
 use Rattle.step.specs.declared.answers.Verdict.{Verdict}
 use Rattle.step.specs.declared.answers.Answer.{Answer}
-use Rattle.step.specs.declared.answers.Answer.TheVariants.{Refused, Old, Stray, Repeat, Taken, Opened as Answer-as-Opened}
+use Rattle.step.specs.declared.answers.Answer.TheVariants.{Old, Stray, Repeat, Taken, Opened as Answer-as-Opened}
 use Rattle.lent.specs.declared.steps.Step.{Step}
 use Rattle.lent.specs.Kept.{record_size, state_at}
 use Rattle.lent.specs.Coded.{message_of}
@@ -39,17 +39,17 @@ turns n rows b [] = []
 turns n rows b (x ∷ l) = turn n rows (after_steps n rows b l) x ∷ turns n rows b l
 
 -- the step wasn't refused
-abbrev pub accepted : Answer → Bool
-accepted (Refused r) = false
-accepted Old = true
-accepted Stray = true
-accepted Repeat = true
-accepted (Taken v) = true
-accepted (Answer-as-Opened v) = true
+abbrev pub accepted : Result Answer Refusal → Bool
+accepted (Err r) = false
+accepted (Ok Old) = true
+accepted (Ok Stray) = true
+accepted (Ok Repeat) = true
+accepted (Ok (Taken v)) = true
+accepted (Ok (Answer-as-Opened v)) = true
 
 -- its messages don't fit the room; it wasn't refused, unless for that
 abbrev pub Full : After → Type 0
-Full a = a.answer ≡ Refused (refusal 12)
+Full a = a.answer ≡ Err (refusal 12)
 
 abbrev pub Unless12 : After → Type 0
 Unless12 a = (accepted a.answer ≡ true) ⊎ Full a
@@ -80,7 +80,7 @@ singly l = reverse (map step_of l)
 -- messages were sent so far; the places after these stay
 unfoldable pub taken_singly : ℕ → List ℕ → Bench → List ℕ → List ℕ → Run
 taken_singly n rows b l answers =
-    run (after_steps n rows b (singly l)) (sets answers 0 (reverse (map (λ t. said t.gave) (turns n rows b (singly l))))) Accepted
+    run (after_steps n rows b (singly l)) (sets answers 0 (reverse (map (λ t. said t.gave) (turns n rows b (singly l))))) (Ok tt)
 
 -- what happens if the step is accepted: a round is opened, or a message arrives
 unfoldable pub event_of : Turn → Event
