@@ -4,7 +4,7 @@ use mathlib.Core.List.{List, [], ◌∷◌}
 use Prim.Native.Nat.{ℕ}
 use lib.Dec.{lit<, lit≤}
 use Rattle.std.specs.Prelude.{Result, Ok, Some, None}
-use Rattle.waits.specs.declared.numbers.Refusal.{Refusal}
+use Rattle.waits.specs.declared.refusals.Refusal.{Refusal}
 use Rattle.records.specs.declared.messages.Kind.TheVariants.{Notify, Grant, Ack, Done}
 use Rattle.records.specs.Messages.{Letter, strange_message}
 use Rattle.waits.specs.Mornings.{fourth_rows, sixth_rows}

@@ -8,7 +8,7 @@ use Prim.Native.Nat.{ℕ, ◌≤◌}
 use lib.Dec.{eqb}
 use borrow.Author.Tests.{not-true, eqb-false, ne_eqb, leb-true, le-leb}
 use Rattle.std.specs.Prelude.{Result, Ok, Err, Bool, false}
-use Rattle.waits.specs.declared.numbers.Refusal.{Refusal}
+use Rattle.waits.specs.declared.refusals.Refusal.{Refusal}
 use Rattle.lemmas.proofs.Tests.{and_intro, and_left, and_right}
 use Rattle.lemmas.proofs.Any.{any_some, some_any}
 use Rattle.nodes.specs.Sets.{Inside, meet, size}

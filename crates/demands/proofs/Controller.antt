@@ -6,6 +6,7 @@ use mathlib.Core.List.{List, [], ◌∷◌}
 use Prim.Native.Nat.{ℕ, ◌≤◌, ◌<◌}
 use lib.ListN.{length}
 use borrow.Author.Tests.{eq-eqb, lt-leb}
+use Rattle.std.specs.Prelude.{Ok}
 use Rattle.lemmas.proofs.Tests.{or_left_false}
 use Rattle.nodes.specs.Sets.{no_node, below}
 use Rattle.nodes.proofs.Inside.{of_inside}
@@ -14,7 +15,6 @@ use Rattle.records.specs.Rounds.{last_round, cannot_open}
 use Rattle.records.specs.Messages.{letter_of, strange_message}
 use Rattle.records.specs.Records.{State, strange_set, strange_record}
 use Rattle.records.proofs.Higher.{opens_iff}
-use Rattle.waits.specs.declared.numbers.Checked.TheVariants.{Accepted}
 use Rattle.waits.specs.Waits.{in_of}
 use Rattle.waits.specs.Rows.{row_size, row_at, waits_of}
 use Rattle.waits.specs.Numbers.{strange_count, wrong_count, line, first_said, check_of}
@@ -29,7 +29,7 @@ use Rattle.node.proofs.Whole.{own_seen}
 use Rattle.demands.specs.Alone.{OwnRow}
 use Rattle.waits.specs.declared.refusals.Reason.TheVariants.{WrongCount, StrangeKind, StrangeMember, WaitsOnItself, WrongThreshold, ExtraSet, BadSets, NoNode, CannotOpen, StrangeState}
 
-module _ (n : ℕ) (rows : List ℕ) (ok : check_of n rows ≡ Accepted) (i : ℕ) (row : List ℕ) (told : OwnRow n rows i row) (s : State) (fine : strange_record n s ≡ false) where
+module _ (n : ℕ) (rows : List ℕ) (ok : check_of n rows ≡ Ok tt) (i : ℕ) (row : List ℕ) (told : OwnRow n rows i row) (s : State) (fine : strange_record n s ≡ false) where
   abbrev ins : ℕ
   ins = in_of (waits_of n rows) i
 
@@ -45,7 +45,7 @@ module _ (n : ℕ) (rows : List ℕ) (ok : check_of n rows ≡ Accepted) (i : �
   row_fine : Fine n i (row_at row 0)
   row_fine = subst (Fine n i) (sym told.2) (accepted_row n rows ok i told.0)
 
-  own_accepted : check_own_of n i row ≡ Accepted
+  own_accepted : check_own_of n i row ≡ Ok tt
   unfolding check_own_of
   own_accepted = λ j.
       first_said (line WrongCount 0 (right_own j) ∷ line NoNode 0 (a_node j)
@@ -57,7 +57,7 @@ module _ (n : ℕ) (rows : List ℕ) (ok : check_of n rows ≡ Accepted) (i : �
   unfolding strange_kept strange_set
   right_kept = ap₂ ◌||◌ fine (ap not (of_inside ins (below n) (ins_inside (waits_of n rows) i)))
 
-  kept_accepted : check_kept_of n i row ins s ≡ Accepted
+  kept_accepted : check_kept_of n i row ins s ≡ Ok tt
   kept_accepted = sym (not_refused (line StrangeState 0 (strange_kept n s ins)) (kept_next n i row ins s) own_accepted right_kept)
 
   -- ---- the two calls: what it sees is what the graph's node sees

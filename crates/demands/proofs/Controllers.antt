@@ -13,7 +13,7 @@ use lib.Dec.{eqb}
 use lib.ListN.{length}
 use borrow.Author.Tests.{lt-leb, eq-eqb, ne_eqb}
 use Rattle.std.specs.Prelude.{Result, Ok}
-use Rattle.waits.specs.declared.numbers.Refusal.{Refusal}
+use Rattle.waits.specs.declared.refusals.Refusal.{Refusal}
 use Rattle.lemmas.proofs.Tests.{true_or_false, or_intro_left}
 use Rattle.nodes.specs.Sets.{no_node}
 use Rattle.nodes.specs.Words.{num}

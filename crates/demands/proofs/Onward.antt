@@ -30,12 +30,14 @@ use Rattle.rounds.specs.History.{Event, node_of, outcome, since, highest_in, His
 use Rattle.rounds.proofs.Put.{put_all}
 use Rattle.demands.specs.Turns.{turn, event_of}
 use Rattle.demands.proofs.Stands.{Stands, sent_count, letter_sent}
+use Rattle.waits.specs.declared.refusals.Reason.{Reason}
+use Rattle.waits.specs.Numbers.{reason_number}
 use Rattle.waits.specs.declared.refusals.Reason.TheVariants.{NoNode, CannotOpen, NoStep, FullRoom}
 
 -- A step with event e: refused with a number up to 11; or with 12, though the history may go on so; or taken. Then the history has
 -- gone on, the answer is the rules' own, and every message sent before is still there.
 pub data Onward (n : ℕ) (rows : List ℕ) (b : Bench) (l : List Event) (e : Event) : After → Type 0 where
-  refused : (number : ℕ) → number ≤ 11 → Onward n rows b l e (refuse number b)
+  refused : (why : Reason) → reason_number why ≤ 11 → Onward n rows b l e (refuse why b)
   full : History (waits_of n rows) (e ∷ l) → room b < length (since (waits_of n rows) (e ∷ l)).sent → Onward n rows b l e (refuse FullRoom b)
   taken : (next : Bench) → Stands n rows next (e ∷ l) → b.sent ≤ next.sent
       → ((k : ℕ) → k < b.sent → get_or next.messages k 0 ≡ get_or b.messages k 0)

@@ -7,16 +7,15 @@ use mathlib.Core.List.Memᴰ.{head as here}
 use Prim.Native.Nat.{ℕ, ◌*◌, ◌≤◌, ◌<◌}
 use native.Mathlib.Omega.{arith}
 use lib.ListN.{drop}
+use Rattle.std.specs.Prelude.{Ok}
 use Rattle.nodes.specs.Sets.{In}
 use Rattle.records.specs.Messages.{Letter}
 use Rattle.waits.specs.declared.refusals.Refusal.{Refusal}
-use Rattle.waits.specs.declared.numbers.Checked.TheVariants.{Accepted}
 use Rattle.waits.specs.Waits.{Waits, edges}
 use Rattle.waits.specs.Deadlocked.{Reachable}
 use Rattle.waits.specs.Rows.{waits_of}
-use Rattle.waits.specs.Numbers.{check_of}
+use Rattle.waits.specs.Numbers.{reason_number, check_of}
 use Rattle.waits.proofs.Lawful.{accepted_lawful}
-use Rattle.deadlock.specs.declared.evidence.Written.TheVariants.{Bytes}
 use Rattle.deadlock.specs.Evidence.{Evidence, WrittenSays}
 use Rattle.deadlock.proofs.Unique.{one_evidence}
 use Rattle.step.specs.declared.answers.Verdict.{Verdict}
@@ -39,7 +38,7 @@ use Rattle.demands.proofs.Past.{opened_heard, arrived_heard}
 use Rattle.demands.proofs.Verdicts.{given_said}
 use Rattle.demands.proofs.Shown.{called_same, free_same, held_same}
 
-module _ (n : ℕ) (rows messages : List ℕ) (steps : List Step) (ok : check_of n rows ≡ Accepted) where
+module _ (n : ℕ) (rows messages : List ℕ) (steps : List Step) (ok : check_of n rows ≡ Ok tt) where
   abbrev w : Waits
   w = waits_of n rows
 
@@ -97,7 +96,7 @@ module _ (n : ℕ) (rows messages : List ℕ) (steps : List Step) (ok : check_of
 
     -- and so it is what was written for s
     pub evidence : Memᴰ Deadlocked (verdicts_given now.highest past) → Evidence w s (held_on n now)
-        × ((found left : List ℕ) (k : ℕ) → WrittenSays n rows s found left (Bytes k) → left ≡ held_on n now ++ drop k found)
+        × ((found left : List ℕ) (k : ℕ) → WrittenSays n rows s found left (Ok k) → left ≡ held_on n now ++ drop k found)
     evidence gave = (
       held_evidence gave,
       λ found left k said. said.1.3 ∙ ap (λ (l : List ℕ). l ++ drop k found) (one_evidence w s said.1.0 (held_on n now) said.1.1 (held_evidence gave)),
@@ -112,7 +111,7 @@ module _ (n : ℕ) (rows messages : List ℕ) (steps : List Step) (ok : check_of
     too_few r t c h k l = omega arith
 
     room_enough_as : {a : After} → Onward n rows now events event a → 4 * edges w * openings (event ∷ events) ≤ room now → Full a → ⊥
-    room_enough_as (refused number h) e f = let q = ap (λ (r : Refusal). r.number) (one_refusal f) in omega arith
+    room_enough_as (refused why h) e f = let q = ap (λ (r : Refusal). reason_number r.reason) (one_refusal f) in omega arith
     room_enough_as (full h r) e f = too_few (room now) _ _ r (many_rounds w (accepted_lawful n rows ok) (event ∷ events) h).at_most_in_all e
     room_enough_as (taken next s more same) e f = not_refused (outcome_accepted w (since w events) event) f
 

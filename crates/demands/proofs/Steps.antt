@@ -21,7 +21,7 @@ use Rattle.bench.specs.Steps.{step_on}
 use Rattle.demands.specs.Turns.{accepted, Unless12, opening, delivery}
 use Rattle.demands.specs.Refusals.{would_send, step_lines}
 use Rattle.demands.proofs.Said.{Says, says_accepted, step_says}
-use Rattle.waits.specs.declared.refusals.Reason.TheVariants.{CannotOpen}
+use Rattle.waits.specs.declared.refusals.Reason.TheVariants.{NoNode, CannotOpen, NoStep, FullRoom, StrangeState}
 
 -- ---- rounds are compared as numbers
 pub as_numbers : (round own : ℕ) → ((behind round own ≡ true) ↔ (round < own)) × ((ahead round own ≡ true) ↔ (own < round))
@@ -39,7 +39,7 @@ module _ (n : ℕ) (rows : List ℕ) (b : Bench) (s round : ℕ) where
       good (lt-leb n s h) ((opens_iff b.highest round).1 k) (step_says b n rows (opening s round))
     where
       go : (p q r t : Bool) → p ≡ false → q ≡ false → r ≡ false
-          → Says b tried (cond p (Err (refusal 13)) (cond q (Err (refusal 9)) (cond r (Err (refusal 10)) (cond t (Err (refusal 12)) (Ok tt)))))
+          → Says b tried (cond p (Err (refusal StrangeState)) (cond q (Err (refusal NoNode)) (cond r (Err (refusal CannotOpen)) (cond t (Err (refusal FullRoom)) (Ok tt)))))
           → Unless12 tried
       go true q r t e f g x = absurd (true≢false e)
       go false true r t e f g x = absurd (true≢false f)
@@ -62,7 +62,7 @@ module _ (n : ℕ) (rows : List ℕ) (b : Bench) (k : ℕ) where
   delivers good h = go (strange_bench n rows b) (leb b.sent k) (ltb (room b) (b.sent + sends)) good (lt-leb b.sent k h) (step_says b n rows (delivery k))
     where
       go : (p q t : Bool) → p ≡ false → q ≡ false
-          → Says b (step_on n rows b (delivery k)) (cond p (Err (refusal 13)) (cond (q || false) (Err (refusal 11)) (cond t (Err (refusal 12)) (Ok tt))))
+          → Says b (step_on n rows b (delivery k)) (cond p (Err (refusal StrangeState)) (cond (q || false) (Err (refusal NoStep)) (cond t (Err (refusal FullRoom)) (Ok tt))))
           → Unless12 (step_on n rows b (delivery k))
       go true q t e f x = absurd (true≢false e)
       go false true t e f x = absurd (true≢false f)

@@ -7,7 +7,7 @@ use mathlib.Core.List.Memᴰ.{tail as there}
 use Prim.Native.Nat.{ℕ}
 use lib.Dec.{eqb}
 use Rattle.std.specs.Prelude.{Result, Ok, Err}
-use Rattle.waits.specs.declared.numbers.Refusal.{Refusal}
+use Rattle.waits.specs.declared.refusals.Refusal.{Refusal}
 use Rattle.waits.specs.Waits.{Waits}
 use Rattle.waits.specs.Rows.{waits_of}
 use Rattle.waits.specs.Numbers.{check_of}

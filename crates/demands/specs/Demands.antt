@@ -2,7 +2,7 @@
 -- what its own file says, and ../proofs/Demands.antt shows that the statements follow. The calls promise what is spoken of here:
 -- `check` check_of, `check_evidence` judged_of, `all_deadlocked` FoundSays, `deadlocked` ClaimSays, `ring_report` ReportSays,
 -- `write_evidence` WrittenSays, `waiting_on` InSays, `open` open_of, `deliver` deliver_of, `step` step_on, `run` run_of. Assumes nothing.
-use Rattle.std.specs.Prelude.{◌≡◌, true, false, ◌⊎◌, ◌↔◌, ℕ, ◌+◌, ◌*◌, ◌≤◌, ◌<◌, length, take, drop}
+use Rattle.std.specs.Prelude.{◌≡◌, true, false, ◌⊎◌, ◌↔◌, ℕ, ◌+◌, ◌*◌, ◌≤◌, ◌<◌, length, take, drop, Result, Ok, Err, Option, Bool}
 use mathlib.Core.List.{List, [], ◌∷◌, ◌++◌, map, Memᴰ}
 use Rattle.nodes.specs.declared.Node.{Node}
 use Rattle.nodes.specs.declared.Set.{Set}
@@ -12,20 +12,13 @@ use Rattle.records.specs.declared.messages.Message.{Message}
 use Rattle.records.specs.Rounds.{last_round, behind, ahead}
 use Rattle.records.specs.Records.{State}
 use Rattle.waits.specs.declared.refusals.Refusal.{Refusal}
-use Rattle.waits.specs.declared.numbers.Checked.TheVariants.{Accepted, Refused}
 use Rattle.waits.specs.Waits.{Waits, edges}
 use Rattle.waits.specs.Deadlocked.{Deadlocked, Reachable, outside}
 use Rattle.waits.specs.Rows.{row_at, sets_of, waits_of}
 use Rattle.waits.specs.Numbers.{graph_lines, check_of, Gives}
-use Rattle.deadlock.specs.declared.claims.Found.{Found}
-use Rattle.deadlock.specs.declared.claims.Found.TheVariants.{Nodes, Refused as Found-as-Refused}
-use Rattle.deadlock.specs.declared.claims.Claim.{Claim}
-use Rattle.deadlock.specs.declared.claims.Claim.TheVariants.{Deadlocked as Claim-as-Deadlocked, Refused as Claim-as-Refused}
 use Rattle.deadlock.specs.declared.ring.Report.{Report}
-use Rattle.deadlock.specs.declared.ring.Report.TheVariants.{InRing, NotDeadlocked as Report-as-NotDeadlocked, Refused as Report-as-Refused}
-use Rattle.deadlock.specs.declared.evidence.Written.{Written}
-use Rattle.deadlock.specs.declared.evidence.Written.TheVariants.{Bytes, Refused as Written-as-Refused}
-use Rattle.deadlock.specs.declared.evidence.Judged.TheVariants.{Passes, ClaimMissing, MemberSatisfied, Refused as Judged-as-Refused}
+use Rattle.deadlock.specs.declared.ring.Report.TheVariants.{InRing, NotDeadlocked}
+use Rattle.deadlock.specs.declared.evidence.Judged.TheVariants.{Passes, ClaimMissing, MemberSatisfied}
 use Rattle.deadlock.specs.Refusals.{asked_lines, list_lines, room_lines, check_node_of, check_list_of}
 use Rattle.deadlock.specs.Claims.{FoundSays, ClaimSays}
 use Rattle.deadlock.specs.Ring.{LeadsTo, ReportSays}
@@ -33,7 +26,7 @@ use Rattle.deadlock.specs.Waiters.{InSays}
 use Rattle.deadlock.specs.Evidence.{Evidence, WrittenSays, judged_of}
 use Rattle.step.specs.declared.answers.Verdict.{Verdict}
 use Rattle.step.specs.declared.answers.Verdict.TheVariants.{Deadlocked as Verdict-as-Deadlocked}
-use Rattle.step.specs.declared.answers.Answer.TheVariants.{Refused as Answer-as-Refused, Opened as Answer-as-Opened}
+use Rattle.step.specs.declared.answers.Answer.TheVariants.{Opened as Answer-as-Opened}
 use Rattle.step.specs.Step.{seen_in, still}
 use Rattle.step.specs.Answers.{said_at_once}
 use Rattle.node.specs.Refusals.{open_lines, deliver_lines}
@@ -54,27 +47,27 @@ use Rattle.demands.specs.Refusals.{step_lines, run_lines}
 -- outside has a `requires`, and every function is proved to end safely: the checker shows that of the code itself.
 pub record Demand1 (n : ℕ) (rows : List ℕ) (r : Refusal) : Type 0 where
   -- "Bad input gets its refusal number from your paper": that of the first line of its table that says so, and only then.
-  pub graph_refused : (check_of n rows ≡ Refused r) ↔ Gives (graph_lines n rows) r
-  pub all_refused : (x : Found) → FoundSays n rows x → (x ≡ Found-as-Refused r) ↔ Gives (graph_lines n rows) r
-  pub claim_refused : (i : ℕ) (x : Claim) → ClaimSays n rows i x → (x ≡ Claim-as-Refused r) ↔ Gives (asked_lines n rows i []) r
-  pub ring_refused : (i : ℕ) (x : Report) → ReportSays n rows i x → (x ≡ Report-as-Refused r) ↔ Gives (asked_lines n rows i []) r
-  pub list_refused : (i : ℕ) (l : List ℕ) → (judged_of n rows i l ≡ Judged-as-Refused r) ↔ Gives (list_lines n rows i l) r
-  pub evidence_refused : (i : ℕ) (found left : List ℕ) (x : Written) → WrittenSays n rows i found left x → (x ≡ Written-as-Refused r) ↔ Gives (room_lines n rows i (length found)) r
-  pub in_refused : (i : ℕ) (x : Found) → InSays n rows i x → (x ≡ Found-as-Refused r) ↔ Gives (asked_lines n rows i []) r
+  pub graph_refused : (check_of n rows ≡ Err r) ↔ Gives (graph_lines n rows) r
+  pub all_refused : (x : Result Set Refusal) → FoundSays n rows x → (x ≡ Err r) ↔ Gives (graph_lines n rows) r
+  pub claim_refused : (i : ℕ) (x : Result Bool Refusal) → ClaimSays n rows i x → (x ≡ Err r) ↔ Gives (asked_lines n rows i []) r
+  pub ring_refused : (i : ℕ) (x : Result Report Refusal) → ReportSays n rows i x → (x ≡ Err r) ↔ Gives (asked_lines n rows i []) r
+  pub list_refused : (i : ℕ) (l : List ℕ) → (judged_of n rows i l ≡ Err r) ↔ Gives (list_lines n rows i l) r
+  pub evidence_refused : (i : ℕ) (found left : List ℕ) (x : Result ℕ Refusal) → WrittenSays n rows i found left x → (x ≡ Err r) ↔ Gives (room_lines n rows i (length found)) r
+  pub in_refused : (i : ℕ) (x : Result Set Refusal) → InSays n rows i x → (x ≡ Err r) ↔ Gives (asked_lines n rows i []) r
   pub opening_refused : (me : ℕ) (row : List ℕ) (ins : ℕ) (s : State) (round : ℕ)
-      → ((open_of n me row ins s round).answer ≡ Answer-as-Refused r) ↔ Gives (open_lines n me row ins s round) r
+      → ((open_of n me row ins s round).answer ≡ Err r) ↔ Gives (open_lines n me row ins s round) r
   pub delivery_refused : (me : ℕ) (row : List ℕ) (ins : ℕ) (s : State) (m : Message)
-      → ((deliver_of n me row ins s m).answer ≡ Answer-as-Refused r) ↔ Gives (deliver_lines n me row ins s m) r
-  pub step_refused : (b : Bench) (x : Step) → ((step_on n rows b x).answer ≡ Answer-as-Refused r) ↔ Gives (step_lines n rows b x) r
-  pub run_refused : (b : Bench) (l answers : List ℕ) → ((run_of n rows b l answers).checked ≡ Refused r) ↔ Gives (run_lines n rows b l answers) r
+      → ((deliver_of n me row ins s m).answer ≡ Err r) ↔ Gives (deliver_lines n me row ins s m) r
+  pub step_refused : (b : Bench) (x : Step) → ((step_on n rows b x).answer ≡ Err r) ↔ Gives (step_lines n rows b x) r
+  pub run_refused : (b : Bench) (l answers : List ℕ) → ((run_of n rows b l answers).checked ≡ Err r) ↔ Gives (run_lines n rows b l answers) r
   -- "and a refused call leaves everything lent exactly as found."
-  pub evidence_left : (i : ℕ) (found left : List ℕ) → WrittenSays n rows i found left (Written-as-Refused r) → left ≡ found
+  pub evidence_left : (i : ℕ) (found left : List ℕ) → WrittenSays n rows i found left (Err r) → left ≡ found
   pub opening_left : (me : ℕ) (row : List ℕ) (ins : ℕ) (s : State) (round : ℕ)
-      → (open_of n me row ins s round).answer ≡ Answer-as-Refused r → open_of n me row ins s round ≡ still s (Answer-as-Refused r)
+      → (open_of n me row ins s round).answer ≡ Err r → open_of n me row ins s round ≡ still s (Err r)
   pub delivery_left : (me : ℕ) (row : List ℕ) (ins : ℕ) (s : State) (m : Message)
-      → (deliver_of n me row ins s m).answer ≡ Answer-as-Refused r → deliver_of n me row ins s m ≡ still s (Answer-as-Refused r)
-  pub step_left : (b : Bench) (x : Step) → (step_on n rows b x).answer ≡ Answer-as-Refused r → step_on n rows b x ≡ after b (Answer-as-Refused r)
-  pub run_left : (b : Bench) (l answers : List ℕ) → (run_of n rows b l answers).checked ≡ Refused r → run_of n rows b l answers ≡ run b answers (Refused r)
+      → (deliver_of n me row ins s m).answer ≡ Err r → deliver_of n me row ins s m ≡ still s (Err r)
+  pub step_left : (b : Bench) (x : Step) → (step_on n rows b x).answer ≡ Err r → step_on n rows b x ≡ after b (Err r)
+  pub run_left : (b : Bench) (l answers : List ℕ) → (run_of n rows b l answers).checked ≡ Err r → run_of n rows b l answers ≡ run b answers (Err r)
 
 module _ (n : ℕ) (rows : List ℕ) where
   abbrev w : Waits
@@ -87,39 +80,39 @@ module _ (n : ℕ) (rows : List ℕ) where
     pub p_of_q : (g : ℕ) → (row_at rows i).kind ≡ 1 → (w.holds i g ≡ true) ↔ ((row_at rows i).threshold ≤ size (meet (num (row_at rows i).first) g))
     pub and_or : (g : ℕ) → (row_at rows i).kind ≡ 2
         → (w.holds i g ≡ true) ↔ ((q : ℕ) × Memᴰ q (sets_of (row_at rows i)) × (q ≡ 0 → ⊥) × Inside q g)
-    pub all : (s : Set) → FoundSays n rows (Nodes s) → In i (num s) ↔ ((i < n) × Deadlocked w i)
-    pub claim : check_node_of n rows i ≡ Accepted → (x : Claim) → ClaimSays n rows i x → (x ≡ Claim-as-Deadlocked) ↔ Deadlocked w i
-    pub ring : check_node_of n rows i ≡ Accepted → (x : Report) → ReportSays n rows i x → (x ≡ Report-as-NotDeadlocked) ↔ (Deadlocked w i → ⊥)
+    pub all : (s : Set) → FoundSays n rows (Ok s) → In i (num s) ↔ ((i < n) × Deadlocked w i)
+    pub claim : check_node_of n rows i ≡ Ok tt → (x : Result Bool Refusal) → ClaimSays n rows i x → (x ≡ Ok true) ↔ Deadlocked w i
+    pub ring : check_node_of n rows i ≡ Ok tt → (x : Result Report Refusal) → ReportSays n rows i x → (x ≡ Ok NotDeadlocked) ↔ (Deadlocked w i → ⊥)
     -- The paper: a deadlocked node is in the ring exactly if a path of one or more edges leads from it back to itself through deadlocked
     -- nodes only; and from every deadlocked node such a path leads to one that is in the ring.
-    pub in_ring : check_node_of n rows i ≡ Accepted → Deadlocked w i → (x : Report) → ReportSays n rows i x → (x ≡ InRing) ↔ LeadsTo w i i
-    pub to_ring : check_node_of n rows i ≡ Accepted → Deadlocked w i → (j : ℕ) × LeadsTo w i j × ReportSays n rows j InRing
+    pub in_ring : check_node_of n rows i ≡ Ok tt → Deadlocked w i → (x : Result Report Refusal) → ReportSays n rows i x → (x ≡ Ok InRing) ↔ LeadsTo w i i
+    pub to_ring : check_node_of n rows i ≡ Ok tt → Deadlocked w i → (j : ℕ) × LeadsTo w i j × ReportSays n rows j (Ok InRing)
     -- "A list offered as evidence passes exactly when it holds the claim asked about and the nodes outside it satisfy no member's
     -- condition": of lists that aren't refused.
-    pub list : (l : List ℕ) → check_list_of n rows i l ≡ Accepted
-        → (judged_of n rows i l ≡ Passes) ↔ (Memᴰ i l × ((j : ℕ) → Memᴰ j l → w.holds j (outside w l) ≡ false))
+    pub list : (l : List ℕ) → check_list_of n rows i l ≡ Ok tt
+        → (judged_of n rows i l ≡ Ok Passes) ↔ (Memᴰ i l × ((j : ℕ) → Memᴰ j l → w.holds j (outside w l) ≡ false))
     pub those_outside : (l : List ℕ) (k : ℕ) → In k (outside w l) ↔ ((k < n) × (Memᴰ k l → ⊥))
     -- The paper: of a list that doesn't pass it is said why: the claim isn't in it, and that is said first; or the first member, in the
     -- list's order, whose condition the nodes outside satisfy.
-    pub claim_missing : (l : List ℕ) → check_list_of n rows i l ≡ Accepted → (judged_of n rows i l ≡ ClaimMissing) ↔ (Memᴰ i l → ⊥)
-    pub member_satisfied : (l : List ℕ) → check_list_of n rows i l ≡ Accepted → (k : Node)
-        → (judged_of n rows i l ≡ MemberSatisfied k)
+    pub claim_missing : (l : List ℕ) → check_list_of n rows i l ≡ Ok tt → (judged_of n rows i l ≡ Ok ClaimMissing) ↔ (Memᴰ i l → ⊥)
+    pub member_satisfied : (l : List ℕ) → check_list_of n rows i l ≡ Ok tt → (k : Node)
+        → (judged_of n rows i l ≡ Ok (MemberSatisfied k))
         ↔ (Memᴰ i l
         × ((before : List ℕ) × (after : List ℕ) × (l ≡ before ++ k.0 ∷ after) × (w.holds k.0 (outside w l) ≡ true)
         × ((j : ℕ) → Memᴰ j before → w.holds j (outside w l) ≡ false)))
     -- "Whoever wrote the list, that is all that counts." The paper: a list that isn't refused is a set. If graph and node aren't
     -- refused, a list is accepted exactly if it names nodes alone and is the ascending list of its set's members; no other with these
     -- members is then accepted, and the member that comes first is the lowest.
-    pub as_a_set : check_node_of n rows i ≡ Accepted → (l : List ℕ)
-        → (check_list_of n rows i l ≡ Accepted) ↔ (((j : ℕ) → Memᴰ j l → j < n) × (members (set_of l) ≡ l))
-    pub one_list : (l m : List ℕ) → check_list_of n rows i l ≡ Accepted → check_list_of n rows i m ≡ Accepted → ((j : ℕ) → Memᴰ j l ↔ Memᴰ j m) → l ≡ m
-    pub lowest : (l : List ℕ) → check_list_of n rows i l ≡ Accepted → (k : Node) → judged_of n rows i l ≡ MemberSatisfied k
+    pub as_a_set : check_node_of n rows i ≡ Ok tt → (l : List ℕ)
+        → (check_list_of n rows i l ≡ Ok tt) ↔ (((j : ℕ) → Memᴰ j l → j < n) × (members (set_of l) ≡ l))
+    pub one_list : (l m : List ℕ) → check_list_of n rows i l ≡ Ok tt → check_list_of n rows i m ≡ Ok tt → ((j : ℕ) → Memᴰ j l ↔ Memᴰ j m) → l ≡ m
+    pub lowest : (l : List ℕ) → check_list_of n rows i l ≡ Ok tt → (k : Node) → judged_of n rows i l ≡ Ok (MemberSatisfied k)
         → (j : ℕ) → Memᴰ j l → w.holds j (outside w l) ≡ true → k.0 ≤ j
     -- The paper: the evidence that is written is never refused, for whatever node of the graph it is offered.
-    pub written_accepted : (found left : List ℕ) (k : ℕ) → WrittenSays n rows i found left (Bytes k)
-        → (j : ℕ) → check_node_of n rows j ≡ Accepted → check_list_of n rows j (take k left) ≡ Accepted
+    pub written_accepted : (found left : List ℕ) (k : ℕ) → WrittenSays n rows i found left (Ok k)
+        → (j : ℕ) → check_node_of n rows j ≡ Ok tt → check_list_of n rows j (take k left) ≡ Ok tt
     -- The paper: a node is deadlocked exactly if some list passes for it.
-    pub link : check_node_of n rows i ≡ Accepted → Deadlocked w i ↔ ((l : List ℕ) × (judged_of n rows i l ≡ Passes))
+    pub link : check_node_of n rows i ≡ Ok tt → Deadlocked w i ↔ ((l : List ℕ) × (judged_of n rows i l ≡ Ok Passes))
 
   -- "From a fresh start, the waits stand still": a fresh bench, whatever the lent list has in its places. `steps` were taken, the newest
   -- first, whatever they are: "let messages be lost, repeated, shuffled, or come late from old rounds, in any mixture".
@@ -140,7 +133,7 @@ module _ (n : ℕ) (rows : List ℕ) where
       pub opens_only : (s round : ℕ) → accepted (step_on n rows now (opening s round)).answer ≡ true → (now.highest < round) × (round ≤ last_round)
       pub as_numbers : (round own : ℕ) → ((behind round own ≡ true) ↔ (round < own)) × ((ahead round own ≡ true) ↔ (own < round))
       -- The paper: a node sees only its own row and IN. So an opening says nothing, but of an active node that nobody waits on.
-      pub at_once : (b : Bench) (s round : ℕ) (v : Verdict) → (step_on n rows b (opening s round)).answer ≡ Answer-as-Opened v
+      pub at_once : (b : Bench) (s round : ℕ) (v : Option Verdict) → (step_on n rows b (opening s round)).answer ≡ Ok (Answer-as-Opened v)
           → v ≡ said_at_once (seen_in w s)
       -- "no round ever gives a false verdict": what is said in a round, once at most, is said by the node that opened it, and is right of
       -- that node.
@@ -164,7 +157,7 @@ module _ (n : ℕ) (rows : List ℕ) where
           × (length (messages_of round now) ≡ 2 * leaving w reachable + 2 * entering w freed)
       pub evidence : (s : ℕ) → Opened past s now.highest → Memᴰ Verdict-as-Deadlocked (verdicts_given now.highest past)
           → Evidence w s (held_on n now)
-          × ((found left : List ℕ) (k : ℕ) → WrittenSays n rows s found left (Bytes k) → left ≡ held_on n now ++ drop k found)
+          × ((found left : List ℕ) (k : ℕ) → WrittenSays n rows s found left (Ok k) → left ≡ held_on n now ++ drop k found)
       -- The paper: a step writes only its new messages, the sent count, the highest round and one record, that of the node where it
       -- happens; places past the room are never touched. This is said of every bench; a refused step changes nothing at all (`step_left`).
       pub leaves : (b : Bench) (x : Step) → Leaves b (node_of (event_of (turn n rows b x))) (step_on n rows b x).bench
@@ -174,4 +167,4 @@ module _ (n : ℕ) (rows : List ℕ) where
 pub record Demands : Type 0 where
   pub first : (n : ℕ) (rows : List ℕ) (r : Refusal) → Demand1 n rows r
   pub second : (n : ℕ) (rows : List ℕ) (i : ℕ) → Demand2 n rows i
-  pub third : (n : ℕ) (rows messages : List ℕ) (steps : List Step) → check_of n rows ≡ Accepted → Demand3 n rows messages steps
+  pub third : (n : ℕ) (rows messages : List ℕ) (steps : List Step) → check_of n rows ≡ Ok tt → Demand3 n rows messages steps

@@ -2,7 +2,7 @@
 use Rattle.std.specs.Prelude.{◌≡◌, Bool, true, false, cond, ◌⊎◌, ℕ, ◌+◌, ◌*◌, ◌<◌, eqb, take, drop, Result, Ok, Err}
 use mathlib.Core.List.{List, [], ◌∷◌, ◌++◌, map, reverse, Memᴰ}
 use Rattle.std.proofs.lemmas.List.Edits.{sets}
-use Rattle.waits.specs.declared.numbers.Refusal.{Refusal}
+use Rattle.waits.specs.declared.refusals.Refusal.{Refusal}
 use Rattle.lemmas.specs.Lists.{those}
 use Rattle.nodes.specs.Sets.{minus, members, gather}
 use Rattle.records.specs.Records.{called, free, in_round}
@@ -18,6 +18,7 @@ use Rattle.bench.specs.Steps.{letter_at, step_on}
 use Rattle.bench.specs.Runs.{said, Run, run}
 use Rattle.rounds.specs.Verdicts.{verdict_in}
 use Rattle.rounds.specs.History.{Event, round_of}
+use Rattle.waits.specs.declared.refusals.Reason.TheVariants.{FullRoom}
 
 -- the bench after the steps of a list, the newest first
 abbrev pub after_steps : ℕ → List ℕ → Bench → List Step → Bench
@@ -49,7 +50,7 @@ accepted (Ok (Answer-as-Opened v)) = true
 
 -- its messages don't fit the room; it wasn't refused, unless for that
 abbrev pub Full : After → Type 0
-Full a = a.answer ≡ Err (refusal 12)
+Full a = a.answer ≡ Err (refusal FullRoom)
 
 abbrev pub Unless12 : After → Type 0
 Unless12 a = (accepted a.answer ≡ true) ⊎ Full a

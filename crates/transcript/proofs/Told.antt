@@ -1,20 +1,38 @@
--- What is said of a list of steps, by whether it was taken. Assumes nothing.
-use mathlib.Core.Path.{◌≡◌, sym, ap, ◌∙◌}
-use mathlib.Core.List.{List}
-use Prim.Native.Nat.{ℕ}
+-- What is said of a list of steps, by whether it was taken, and the lines of messages. Assumes nothing.
+use mathlib.Core.Path.{◌≡◌, sym, ap, ap₂, ◌∙◌}
+use mathlib.Core.List.{List, [], ◌++◌}
+use Prim.Native.Nat.{ℕ, ◌+◌, ◌≤◌, ◌<◌}
+use native.Mathlib.Numerals.{add-one}
+use native.Mathlib.Omega.{arith}
+use lib.ListN.{length, get_or, take, drop}
+use lib.Seq.{length-take-le}
+use Rattle.std.specs.Prelude.{Result, Ok, Err}
+use Rattle.std.proofs.lemmas.List.{get_or-take, at_drop_more, at_drop_all}
+use Rattle.records.specs.declared.messages.Message.{Message}
 use Rattle.waits.specs.declared.refusals.Refusal.{Refusal}
-use Rattle.waits.specs.declared.numbers.Checked.{Checked}
-use Rattle.waits.specs.declared.numbers.Checked.TheVariants.{Accepted, Refused}
-use Rattle.text.specs.Text.{Text, write}
-use Rattle.text.proofs.Writing.{write_both}
+use Rattle.waits.specs.Numbers.{reason_number}
+use Rattle.lent.specs.Coded.{message_of}
 use Rattle.lines.specs.Lines.{answer_lines, refused_line}
-use Rattle.transcript.specs.Transcript.{message_lines, told_of}
+use Rattle.transcript.specs.Transcript.{line_of, message_lines, told_of}
 
-module _ {c : Checked} (answers sent : List ℕ) (t : Text) {u : Text} where
-  pub told_refused : {r : Refusal} → c ≡ Refused r → u ≡ write t (refused_line r.number 0) → u ≡ write t (told_of c answers sent)
+module _ {c : Result Unit Refusal} (answers sent : List ℕ) where
+  pub told_refused : {r : Refusal} → c ≡ Err r → refused_line (reason_number r.reason) 0 ≡ told_of c answers sent
   unfolding told_of
-  told_refused e f = f ∙ ap (λ (x : Checked). write t (told_of x answers sent)) (sym e)
+  told_refused e = ap (λ (x : Result Unit Refusal). told_of x answers sent) (sym e)
 
-  pub told_accepted : {v : Text} → c ≡ Accepted → v ≡ write t (answer_lines answers) → u ≡ write v (message_lines 0 sent) → u ≡ write t (told_of c answers sent)
+  pub told_accepted : c ≡ Ok tt → answer_lines answers ++ message_lines 0 sent ≡ told_of c answers sent
   unfolding told_of
-  told_accepted e f g = write_both t (answer_lines answers) (message_lines 0 sent) f g ∙ ap (λ (x : Checked). write t (told_of x answers sent)) (sym e)
+  told_accepted e = ap (λ (x : Result Unit Refusal). told_of x answers sent) (sym e)
+
+-- ---- the first messages of a list: what is left of their lines from message k on
+module _ (list : List ℕ) (sent k : ℕ) (enough : sent ≤ length list) where
+  pub message_next : k < sent → {m : Message} → m ≡ message_of (get_or list k 0)
+      → message_lines k (drop k (take sent list)) ≡ line_of k m ++ message_lines (k + 1) (drop (k + 1) (take sent list))
+  unfolding message_lines
+  message_next h e =
+      at_drop_more (message_lines k) (take sent list) k 0 (omega (arith, length-take-le sent list enough))
+      ∙ sym (ap₂ (λ (m : Message) (j : ℕ). line_of k m ++ message_lines j (drop (k + 1) (take sent list))) (e ∙ ap message_of (sym (get_or-take sent list k 0 h))) (add-one k))
+
+  pub message_none : sent ≤ k → message_lines k (drop k (take sent list)) ≡ []
+  unfolding message_lines
+  message_none h = at_drop_all (message_lines k) (take sent list) k (omega (arith, length-take-le sent list enough))
