@@ -24,7 +24,8 @@ use Rattle.bench.specs.Strange.{strange_bench}
 use Rattle.bench.specs.Steps.{letter_at, refuse, join, open_at, arrive_at, deliver_at, take_step, step_on}
 use Rattle.rounds.specs.History.{Event, node_of}
 use Rattle.demands.specs.Turns.{Leaves, turn, event_of}
-use Rattle.waits.specs.declared.refusals.Reason.TheVariants.{NoStep, FullRoom}
+use Rattle.waits.specs.declared.refusals.Reason.{Reason}
+use Rattle.waits.specs.declared.refusals.Reason.TheVariants.{NoNode, CannotOpen, NoStep, FullRoom, StrangeState}
 
 -- ---- a run of numbers that is stored: the list in front of it, and the list behind it
 sets_front : (vs l : List ℕ) (i n : ℕ) → n ≤ i → take n (sets l i vs) ≡ take n l
@@ -68,9 +69,9 @@ module _ (b : Bench) where
     join_leaves = joins (ltb (room b) (b.sent + length new)) refl
 
   -- a refusal, or what it would have been
-  or_leaves : (t : Bool) (number i : ℕ) (a : After) → Leaves b i a.bench → Leaves b i (cond t (refuse number b) a).bench
-  or_leaves true number i a h = nothing i
-  or_leaves false number i a h = h
+  or_leaves : (t : Bool) (why : Reason) (i : ℕ) (a : After) → Leaves b i a.bench → Leaves b i (cond t (refuse why b) a).bench
+  or_leaves true why i a h = nothing i
+  or_leaves false why i a h = h
 
 -- Theorem: whatever the bench and the step are.
 module _ (n : ℕ) (rows : List ℕ) (b : Bench) (x : Step) where
@@ -79,15 +80,15 @@ module _ (n : ℕ) (rows : List ℕ) (b : Bench) (x : Step) where
 
   open_leaves : Leaves b x.a (open_at w b x.a x.b).bench
   unfolding open_at
-  open_leaves = or_leaves b (no_node n x.a) 9 x.a _ (or_leaves b (cannot_open b.highest x.b) 10 x.a _ (join_leaves b x.b x.a _))
+  open_leaves = or_leaves b (no_node n x.a) NoNode x.a _ (or_leaves b (cannot_open b.highest x.b) CannotOpen x.a _ (join_leaves b x.b x.a _))
 
   deliver_leaves : Leaves b (letter_at b x.a).to (deliver_at w b x.a).bench
   unfolding deliver_at arrive_at
-  deliver_leaves = or_leaves b (leb b.sent x.a) 11 _ _ (join_leaves b b.highest (letter_at b x.a).to _)
+  deliver_leaves = or_leaves b (leb b.sent x.a) NoStep _ _ (join_leaves b b.highest (letter_at b x.a).to _)
 
   pub step_leaves : Leaves b (node_of (event_of (turn n rows b x))) (step_on n rows b x).bench
   unfolding step_on take_step event_of
-  step_leaves = or_leaves b (strange_bench n rows b) 13 _ _ (go (eqb x.kind 0) (eqb x.kind 1))
+  step_leaves = or_leaves b (strange_bench n rows b) StrangeState _ _ (go (eqb x.kind 0) (eqb x.kind 1))
     where
       go : (p q : Bool) → Leaves b (node_of (cond p (Event.opens x.a x.b) (Event.arrives (letter_at b x.a))))
           (cond p (open_at w b x.a x.b) (cond q (deliver_at w b x.a) (refuse NoStep b))).bench

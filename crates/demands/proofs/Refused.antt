@@ -89,7 +89,7 @@ module _ (n : ℕ) (rows : List ℕ) (b : Bench) (steps answers : List ℕ) wher
   run_says = go (strange_bench n rows b) (ltb (length answers) (length steps))
     where
       go : (p q : Bool)
-          → RunSays (cond p (refuse_all 13 b answers) (cond q (refuse_all 15 b answers) (run (run_on n rows b steps) (sets answers 0 (answers_on n rows b steps)) (Ok tt))))
+          → RunSays (cond p (refuse_all StrangeState b answers) (cond q (refuse_all ShortRoom b answers) (run (run_on n rows b steps) (sets answers 0 (answers_on n rows b steps)) (Ok tt))))
           (cond p (Err (refusal StrangeState)) (cond q (Err (refusal ShortRoom)) (Ok tt)))
       go true q = (refl, λ h. refl)
       go false true = (refl, λ h. refl)

@@ -28,7 +28,8 @@ use Rattle.bench.specs.Strange.{strange_bench}
 use Rattle.bench.specs.Steps.{letter_at, refuse, join, open_at, arrive_at, deliver_at, take_step, step_on}
 use Rattle.demands.specs.Turns.{accepted}
 use Rattle.demands.specs.Refusals.{sends_of, would_send, step_lines}
-use Rattle.waits.specs.declared.refusals.Reason.TheVariants.{NoNode, CannotOpen, NoStep, FullRoom}
+use Rattle.waits.specs.declared.refusals.Reason.{Reason}
+use Rattle.waits.specs.declared.refusals.Reason.TheVariants.{NoNode, CannotOpen, NoStep, FullRoom, StrangeState}
 
 -- ---- what a node answers is no refusal
 pub not_refused : {a : Result Answer Refusal} {r : Refusal} → accepted a ≡ true → a ≡ Err r → ⊥
@@ -69,19 +70,19 @@ module _ (b : Bench) (a : After) where
 
 -- ---- line by line
 module _ (b : Bench) where
-  by_line : (t : Bool) (number : ℕ) (a : After) (c : Result Unit Refusal) → Says b a c → Says b (cond t (refuse number b) a) (cond t (Err (refusal number)) c)
-  by_line true number a c e = refl
-  by_line false number a c e = e
+  by_line : (t : Bool) (why : Reason) (a : After) (c : Result Unit Refusal) → Says b a c → Says b (cond t (refuse why b) a) (cond t (Err (refusal why)) c)
+  by_line true why a c e = refl
+  by_line false why a c e = e
 
   -- one of two tests, of which the second one is false
-  by_first : (t : Bool) (number : ℕ) (a : After) (c : Result Unit Refusal) → Says b a c → Says b (cond t (refuse number b) a) (cond (t || false) (Err (refusal number)) c)
-  by_first true number a c e = refl
-  by_first false number a c e = e
+  by_first : (t : Bool) (why : Reason) (a : After) (c : Result Unit Refusal) → Says b a c → Says b (cond t (refuse why b) a) (cond (t || false) (Err (refusal why)) c)
+  by_first true why a c e = refl
+  by_first false why a c e = e
 
   join_says : (highest i : ℕ) (out : Outcome) → accepted out.answer ≡ true
       → Says b (join b highest i out) (cond (ltb (room b) (b.sent + sends_of i out)) (Err (refusal FullRoom)) (Ok tt))
   unfolding join
-  join_says highest i out e = by_line (ltb (room b) (b.sent + sends_of i out)) 12 _ (Ok tt) e
+  join_says highest i out e = by_line (ltb (room b) (b.sent + sends_of i out)) FullRoom _ (Ok tt) e
 
   module _ (n : ℕ) (rows : List ℕ) (x : Step) where
     abbrev w : Waits
@@ -102,20 +103,20 @@ module _ (b : Bench) where
         (cond (ltb (room b) (b.sent + sends_of x.a begun)) (Err (refusal FullRoom)) (Ok tt))))
     unfolding open_at
     opening_says =
-        by_line (no_node n x.a) 9 _ _ (by_line (cannot_open b.highest x.b) 10 _ _
+        by_line (no_node n x.a) NoNode _ _ (by_line (cannot_open b.highest x.b) CannotOpen _ _
         (join_says x.b x.a begun (open_accepted (seen_in w x.a) x.b)))
 
     delivery_says : Says b (deliver_at w b x.a)
         (cond (leb b.sent x.a || false) (Err (refusal NoStep)) (cond (ltb (room b) (b.sent + sends_of m.to got)) (Err (refusal FullRoom)) (Ok tt)))
     unfolding deliver_at arrive_at
     delivery_says =
-        by_first (leb b.sent x.a) 11 _ _
+        by_first (leb b.sent x.a) NoStep _ _
         (join_says b.highest m.to got (receive_accepted (seen_in w m.to) (state_at b.records m.to) m))
 
     -- Theorem: a step is refused, and changes nothing, with the first line of its table that says so; if none does, it isn't refused.
     pub step_says : Says b (step_on n rows b x) (first_said (step_lines n rows b x))
     unfolding step_on take_step would_send
-    step_says = by_line (strange_bench n rows b) 13 _ _ (go (eqb x.kind 0) (eqb x.kind 1) refl refl)
+    step_says = by_line (strange_bench n rows b) StrangeState _ _ (go (eqb x.kind 0) (eqb x.kind 1) refl refl)
       where
         go : (p q : Bool) → eqb x.kind 0 ≡ p → eqb x.kind 1 ≡ q
             → Says b (cond p (open_at w b x.a x.b) (cond q (deliver_at w b x.a) (refuse NoStep b)))
