@@ -28,7 +28,7 @@ use Rattle.records.specs.Records.{State, in_round, strange_record}
 use Rattle.records.proofs.Higher.{not_ahead_itself, not_ahead_later, round_range, in_round_exists, in_round_not_ahead}
 use Rattle.records.proofs.Among.{Among, record_among, among_record}
 use Rattle.std.specs.Prelude.{Result, Ok}
-use Rattle.waits.specs.declared.numbers.Refusal.{Refusal}
+use Rattle.waits.specs.declared.refusals.Refusal.{Refusal}
 use Rattle.waits.specs.Rows.{waits_of}
 use Rattle.step.specs.declared.answers.Answer.{Answer}
 use Rattle.step.specs.Step.{Receivers, Outcome, still, seen_in, open_round, receive}
@@ -45,6 +45,7 @@ use Rattle.bench.specs.Steps.{refuse, join, arrive_at, step_on, take_step}
 use Rattle.bench.proofs.Ways.{Way, step_way}
 use Rattle.bench.proofs.Ways.Way.{refused, opened, arrived}
 use Rattle.bench.proofs.Sound.{Sound, good_sound, sound_good, shaped, room_le, record_there, sent_fine, out_among, ins_among}
+use Rattle.waits.specs.declared.refusals.Reason.TheVariants.{FullRoom}
 
 -- ---- what a node sends can be
 letter_fine : (n highest : ℕ) (m : Letter) → n ≤ places → m.from < n → m.to < n → no_round m.round ≡ false → ahead m.round highest ≡ false
@@ -138,7 +139,7 @@ module _ (n : ℕ) (rows : List ℕ) (b : Bench) (s : Sound n rows b) (highest i
       (any_weaker (λ x. strange_message_on n b.highest (message_of x)) p (take b.sent b.messages) (λ x e. sent_later n b.highest highest (message_of x) later e) s.listed)
       sends
 
-  joins : (t : Bool) → ltb (room b) (b.sent + length new) ≡ t → Sound n rows (cond t (refuse 12 b) (after next out.answer)).bench
+  joins : (t : Bool) → ltb (room b) (b.sent + length new) ≡ t → Sound n rows (cond t (refuse FullRoom b) (after next out.answer)).bench
   joins true e = s
   joins false e =
       let h : b.sent + length new ≤ room b = ltb-false (room b) (b.sent + length new) e in

@@ -25,7 +25,7 @@ use Rattle.records.proofs.Fits.{record_fits}
 use Rattle.records.proofs.Among.{record_among}
 use Rattle.std.specs.Prelude.{Result, Err}
 use Rattle.std.specs.Result.{is_err}
-use Rattle.waits.specs.declared.numbers.Refusal.{Refusal}
+use Rattle.waits.specs.declared.refusals.Refusal.{Refusal}
 use Rattle.waits.specs.Rows.{waits_of, Shaped}
 use Rattle.waits.specs.Numbers.{check_of}
 use Rattle.waits.proofs.Table.{accepted_shaped}
@@ -43,6 +43,7 @@ use Rattle.bench.specs.Strange.{strange_record_on, strange_message_on, strange_r
 use Rattle.bench.specs.Steps.{join}
 use Rattle.bench.proofs.Sound.{Sound, is_accepted, good_sound, shaped, room_le, few_sent, record_there, sent_fine}
 use Rattle.bench.proofs.Keeping.{opened_fine, from_there, to_there, was_record, arrived_fine}
+use Rattle.waits.specs.declared.refusals.Reason.TheVariants.{FullRoom}
 
 -- ---- a walk over the records
 abbrev pub NoneBelow : ℕ → ℕ → List ℕ → ℕ → Type 0
@@ -79,7 +80,7 @@ module _ (b : Bench) (next i : ℕ) (out : Outcome) {x y : ℕ} (room : x ≡ ro
   count : b.sent + y ≡ b.sent + length (letters_of i out.state.round out.sends)
   count = ap (λ (k : ℕ). b.sent + k) (new ∙ sym (letters_count i out.state.round out.sends))
 
-  pub join_over : {r : Result Answer Refusal} → x < b.sent + y → r ≡ Err (refusal 12) → after b r ≡ join b next i out
+  pub join_over : {r : Result Answer Refusal} → x < b.sent + y → r ≡ Err (refusal FullRoom) → after b r ≡ join b next i out
   unfolding join
   join_over h e = at_true _ (lt-ltb (room_of (length b.messages)) (b.sent + length (letters_of i out.state.round out.sends)) (omega (arith, room, count))) (ap (after b) e)
 

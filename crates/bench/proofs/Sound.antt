@@ -13,7 +13,7 @@ use Rattle.lemmas.proofs.Any.{none_at, none_below, all_below}
 use Rattle.nodes.specs.Sets.{Inside, below}
 use Rattle.records.specs.Rounds.{last_round}
 use Rattle.std.specs.Prelude.{Result, Ok, Err}
-use Rattle.waits.specs.declared.numbers.Refusal.{Refusal}
+use Rattle.waits.specs.declared.refusals.Refusal.{Refusal}
 use Rattle.waits.specs.Rows.{waits_of, Shaped}
 use Rattle.waits.specs.Numbers.{check_of}
 use Rattle.waits.proofs.Table.{accepted_shaped}

@@ -10,7 +10,7 @@ use lib.Seq.{sets, drop-cons}
 use borrow.Author.Tests.{le-ltb}
 use Rattle.lemmas.proofs.Cases.{at_true, at_false}
 use Rattle.std.specs.Prelude.{Result, Ok}
-use Rattle.waits.specs.declared.numbers.Refusal.{Refusal}
+use Rattle.waits.specs.declared.refusals.Refusal.{Refusal}
 use Rattle.waits.specs.Rows.{waits_of}
 use Rattle.step.specs.declared.answers.Answer.{Answer}
 use Rattle.step.specs.Answers.{code_of}
@@ -23,6 +23,7 @@ use Rattle.bench.specs.Runs.{run, said, run_on, answers_on, refuse_all, run_of}
 use Rattle.bench.proofs.Sound.{good_sound, few_sent}
 use Rattle.bench.proofs.Keeping.{step_good, step_taken}
 use Rattle.bench.proofs.Codes.{answer_few}
+use Rattle.waits.specs.declared.refusals.Reason.TheVariants.{StrangeState, ShortRoom}
 
 -- j steps are taken; b is the bench then, and answers are the lent answers; start and found are those at the beginning
 pub record Turn (n : ℕ) (rows steps : List ℕ) (start : Bench) (found : List ℕ) (b : Bench) (answers : List ℕ) (j : ℕ) : Type 0 where
@@ -78,10 +79,10 @@ module _ (n : ℕ) (rows : List ℕ) where
 
 -- ---- a list that is refused as a whole, and one that isn't
 module _ (n : ℕ) (rows : List ℕ) (b : Bench) (steps answers : List ℕ) where
-  pub run_refused : strange_bench n rows b ≡ true → run_of n rows b steps answers ≡ refuse_all 13 b answers
+  pub run_refused : strange_bench n rows b ≡ true → run_of n rows b steps answers ≡ refuse_all StrangeState b answers
   unfolding run_of
   run_refused e = sym (at_true _ e refl)
 
   pub run_taken : Good n rows b → length steps ≤ length answers → run_of n rows b steps answers ≡ run (run_on n rows b steps) (sets answers 0 (answers_on n rows b steps)) (Ok tt)
   unfolding run_of
-  run_taken e h = sym (at_false (refuse_all 13 b answers) e (at_false (refuse_all 15 b answers) (le-ltb (length answers) (length steps) h) refl))
+  run_taken e h = sym (at_false (refuse_all StrangeState b answers) e (at_false (refuse_all ShortRoom b answers) (le-ltb (length answers) (length steps) h) refl))

@@ -1,6 +1,7 @@
 -- The state of a bench, as it stands in lent lists of numbers. Assumes nothing.
 use Rattle.std.specs.Prelude.{List, ℕ, ◌*◌, min, length, replicate, Result}
-use Rattle.waits.specs.declared.numbers.Refusal.{Refusal}
+use Rattle.waits.specs.declared.refusals.Reason.{Reason}
+use Rattle.waits.specs.declared.refusals.Refusal.{Refusal}
 use Rattle.step.specs.declared.answers.Answer.{Answer}
 use Rattle.lent.specs.Kept.{record_size}
 
@@ -31,9 +32,9 @@ room_of places = min places most_room
 abbrev pub room : Bench → ℕ
 room b = room_of (length b.messages)
 
--- a refusal by a bench: its numbers are not of a row, and give row 0
-abbrev pub refusal : ℕ → Refusal
-refusal number = record { number = number; row = record { 0 = 0 } }
+-- a refusal by a bench: its reasons are not of a row, and give row 0
+abbrev pub refusal : Reason → Refusal
+refusal reason = record { reason = reason; row = record { 0 = 0 } }
 
 -- A step leaves a bench, and answers.
 pub record After : Type 0 where

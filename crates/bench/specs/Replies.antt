@@ -1,9 +1,10 @@
 -- What the calls of the code hand back, besides the lent lists. Assumes nothing.
 use Rattle.std.specs.Prelude.{ℕ, Err}
 use Rattle.nodes.specs.declared.Round.{Round}
+use Rattle.waits.specs.declared.refusals.Reason.{Reason}
 use Rattle.bench.specs.declared.steps.Reply.{Reply}
 use Rattle.bench.specs.Bench.{refusal}
 
 -- a refusal hands back the count and the highest round as they were
-abbrev pub refused : ℕ → ℕ → Round → Reply
-refused number sent highest = record { sent = sent; highest = highest; answer = Err (refusal number) }
+abbrev pub refused : Reason → ℕ → Round → Reply
+refused reason sent highest = record { sent = sent; highest = highest; answer = Err (refusal reason) }

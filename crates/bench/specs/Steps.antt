@@ -13,16 +13,18 @@ use Rattle.lent.specs.Kept.{state_at, put_state}
 use Rattle.lent.specs.Coded.{message_of, number_of}
 use Rattle.bench.specs.Bench.{Bench, After, bench, after, room, refusal}
 use Rattle.bench.specs.Strange.{strange_bench}
+use Rattle.waits.specs.declared.refusals.Reason.{Reason}
+use Rattle.waits.specs.declared.refusals.Reason.TheVariants.{NoNode, CannotOpen, NoStep, FullRoom, StrangeState}
 
 -- a refused step changes nothing
-abbrev pub refuse : ℕ → Bench → After
-refuse number b = after b (Err (refusal number))
+abbrev pub refuse : Reason → Bench → After
+refuse reason b = after b (Err (refusal reason))
 
 -- What node i did joins the bench: its record, and its messages after all those sent so far. 12 if these don't fit the room.
 unfoldable pub join : Bench → ℕ → ℕ → Outcome → After
 join b highest i out =
     let new = letters_of i out.state.round out.sends in
-    cond (ltb (room b) (b.sent + length new)) (refuse 12 b)
+    cond (ltb (room b) (b.sent + length new)) (refuse FullRoom b)
     (after
     (bench (put_state b.records i out.state) (sets b.messages b.sent (map number_of new)) (b.sent + length new) highest)
     out.answer)
@@ -30,8 +32,8 @@ join b highest i out =
 -- Node i opens a round: 9 if there is no such node, then 10.
 unfoldable pub open_at : Waits → Bench → ℕ → ℕ → After
 open_at w b i round =
-    cond (no_node w.nodes i) (refuse 9 b)
-    (cond (cannot_open b.highest round) (refuse 10 b)
+    cond (no_node w.nodes i) (refuse NoNode b)
+    (cond (cannot_open b.highest round) (refuse CannotOpen b)
     (join b round i (open_round (seen_in w i) round)))
 
 -- a message arrives where it is addressed to
@@ -44,15 +46,15 @@ letter_at b k = letter_of (message_of (get_or b.messages k 0))
 
 -- It is delivered, whether or not it was before: 11 if there is none yet.
 unfoldable pub deliver_at : Waits → Bench → ℕ → After
-deliver_at w b k = cond (leb b.sent k) (refuse 11 b) (arrive_at w b (letter_at b k))
+deliver_at w b k = cond (leb b.sent k) (refuse NoStep b) (arrive_at w b (letter_at b k))
 
 -- kind 0 opens node a in round b, kind 1 delivers message a; there are no others
 unfoldable pub take_step : Waits → Bench → Step → After
 take_step w b s =
     cond (eqb s.kind 0) (open_at w b s.a s.b)
     (cond (eqb s.kind 1) (deliver_at w b s.a)
-    (refuse 11 b))
+    (refuse NoStep b))
 
 -- One step by itself: 13 before all else.
 unfoldable pub step_on : ℕ → List ℕ → Bench → Step → After
-step_on n rows b s = cond (strange_bench n rows b) (refuse 13 b) (take_step (waits_of n rows) b s)
+step_on n rows b s = cond (strange_bench n rows b) (refuse StrangeState b) (take_step (waits_of n rows) b s)

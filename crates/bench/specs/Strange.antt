@@ -6,7 +6,7 @@ use Rattle.records.specs.declared.messages.Message.{Message}
 use Rattle.records.specs.Rounds.{last_round, ahead}
 use Rattle.records.specs.Messages.{strange_message}
 use Rattle.records.specs.Records.{State, strange_record}
-use Rattle.waits.specs.declared.numbers.Refusal.{Refusal}
+use Rattle.waits.specs.declared.refusals.Refusal.{Refusal}
 use Rattle.waits.specs.Numbers.{check_of}
 use Rattle.lent.specs.Kept.{record_size, state_at}
 use Rattle.lent.specs.Coded.{message_of}

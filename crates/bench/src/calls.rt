@@ -11,7 +11,7 @@ use crate::checks::strange_bench;
 use crate::steps::{AtWork, Reply, refuse};
 use lent::{Step, answer_number, step_of};
 use nodes::{Node, Round};
-use waits::{Graph, Refusal, refused};
+use waits::{Graph, Reason, Refusal, refused};
 
 // How many messages are sent now, the highest round opened, and whether the list was refused as a whole.
 #[derive(Clone, Copy, Debug, PartialEq, Eq)]
@@ -38,7 +38,7 @@ pub fn step(
         return Reply {
             sent,
             highest,
-            answer: refuse(13),
+            answer: refuse(Reason::StrangeState),
         };
     }
     let graph = Graph::new(nodes, rows);
@@ -87,14 +87,14 @@ pub fn run(
         return Ran {
             sent,
             highest,
-            checked: refused(13, Node(0)),
+            checked: refused(Reason::StrangeState, Node(0)),
         };
     }
     if answers.len() < steps.len() {
         return Ran {
             sent,
             highest,
-            checked: refused(15, Node(0)),
+            checked: refused(Reason::ShortRoom, Node(0)),
         };
     }
     let graph = Graph::new(nodes, rows);

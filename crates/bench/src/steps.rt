@@ -19,7 +19,7 @@ use lent::{Step, message_of, put_record, record_at, send, total};
 use nodes::{Node, Round};
 use records::{Message, Record, cannot_open};
 use step::{Answer, Own, Stepped, open_round, receive};
-use waits::{Graph, Refusal};
+use waits::{Graph, Reason, Refusal};
 
 // How many messages are sent now, the highest round opened, and the answer.
 #[derive(Clone, Copy, Debug, PartialEq, Eq)]
@@ -41,11 +41,11 @@ pub struct AtWork<'a> {
 }
 
 // A refusal by a bench is of no row, and gives row 0.
-pub fn refuse(number: u64) -> Result<Answer, Refusal>
-    ensures { result ≡ Err (refusal number) }
+pub fn refuse(reason: Reason) -> Result<Answer, Refusal>
+    ensures { result ≡ Err (refusal reason) }
 {
     let row = Node(0);
-    Err(Refusal { number, row })
+    Err(Refusal { reason, row })
 }
 
 impl<'a> AtWork<'a> {
@@ -76,7 +76,7 @@ impl<'a> AtWork<'a> {
         ensures joined { after (state_at_work self.new) result ≡ join_of (state_at_work self.old) next.0 i.0 (outcome_of did) }
     {
         if room(self.messages.len()) < self.sent + total(did.sends) {
-            return refuse(12);
+            return refuse(Reason::FullRoom);
         }
         put_record(self.records, i, did.state);
         self.sent = send(self.messages, self.sent, i, did.state.round, did.sends);
@@ -91,10 +91,10 @@ impl<'a> AtWork<'a> {
         ensures opened { after (state_at_work self.new) result ≡ open_at (waits_at self.old) (state_at_work self.old) i.0 round.0 }
     {
         if self.graph.nodes <= i.0 {
-            return refuse(9);
+            return refuse(Reason::NoNode);
         }
         if cannot_open(self.highest, round) {
-            return refuse(10);
+            return refuse(Reason::CannotOpen);
         }
         let did = open_round(self.own(i), round);
         self.join(round, i, did)
@@ -118,7 +118,7 @@ impl<'a> AtWork<'a> {
         ensures delivered { after (state_at_work self.new) result ≡ deliver_at (waits_at self.old) (state_at_work self.old) k }
     {
         if self.sent <= k {
-            return refuse(11);
+            return refuse(Reason::NoStep);
         }
         let m = message_of(self.messages[k]);
         self.arrive_at(m)
@@ -134,7 +134,7 @@ impl<'a> AtWork<'a> {
         match s.kind {
             0 => self.open_at(Node(s.a as usize), Round(s.b)),
             1 => self.deliver_at(s.a as usize),
-            _ => refuse(11),
+            _ => refuse(Reason::NoStep),
         }
     }
 }

@@ -2,38 +2,33 @@
 // is refused, or that nobody is deadlocked, in plain words.
 #![tactic(auto)]
 
+ghost use Rattle.std.specs.Prelude.{◌≤◌, length};
+
 use reasons::{reasons, words_room};
 use report::{file_room, report, text_room};
-use std::io::{Stderr, Stdout};
-use streams::{Input, fail, read_all, say, write_all};
+use streams::answer_input;
+use text::bytes;
 
 // Only a graph in which nobody is deadlocked has an empty answer.
-fn explain(errors: &mut Stderr, file: &[u8], end: usize) {
+fn explain(file: &[u8], end: usize, words: &mut [u8]) -> usize
+    ensures { result ≤ length words.new }
+{
     if end == 0 {
-        say(errors, b"claims: ", b"nobody is deadlocked\n");
-        return;
+        return bytes(words, 0, b"nobody is deadlocked\n");
     }
-    let mut words = words_room();
-    let said = reasons(file, &mut words);
-    say(errors, b"claims: ", &words[..said]);
+    reasons(file, words)
 }
 
-fn answer(output: &mut Stdout, errors: &mut Stderr, file: &[u8]) {
-    let mut text = text_room();
-    let end = report(file, &mut text);
-    if let Err(why) = write_all(output, &text[..end]) {
-        fail(errors, b"claims: the answer can't be written", why);
-        return;
-    }
-    explain(errors, file, end);
-}
-
-#[tactic(auto, unfolding(streams::specs::Streams::Within))]
 fn main(rt: HostRuntime) {
-    let mut errors = rt.stderr();
-    let mut file = file_room();
-    match read_all(&mut rt.stdin(), &mut file) {
-        Input::Failed(why) => fail(&mut errors, b"claims: standard input can't be read", why),
-        Input::Bytes(length) => answer(&mut rt.stdout(), &mut errors, &file[..length]),
-    }
+    answer_input(
+        &mut rt.stdin(),
+        &mut rt.stdout(),
+        &mut rt.stderr(),
+        b"claims: ",
+        &mut file_room(),
+        &mut text_room(),
+        &mut words_room(),
+        report,
+        explain,
+    );
 }

@@ -15,7 +15,7 @@ use Rattle.records.specs.declared.messages.Message.{Message}
 use Rattle.records.specs.Messages.{letter_of, strange_message}
 use Rattle.records.specs.Records.{State}
 use Rattle.records.specs.Rounds.{cannot_open}
-use Rattle.waits.specs.declared.numbers.Refusal.{Refusal}
+use Rattle.waits.specs.declared.refusals.Refusal.{Refusal}
 use Rattle.waits.specs.declared.numbers.Checked.{Checked}
 use Rattle.waits.specs.declared.numbers.Checked.TheVariants.{Accepted, Refused}
 use Rattle.waits.specs.Rows.{row_at, waits_of}
@@ -54,13 +54,14 @@ use Rattle.bench.specs.Runs.{refuse_all, run, run_of}
 use Rattle.bench.proofs.Codes.{step_answer}
 use Rattle.waits.specs.Numbers.{Small}
 use Rattle.coldroom.specs.Small.{SmallAnswer}
+use Rattle.waits.specs.declared.refusals.Reason.TheVariants.{WrongCount, ManyEdges, NoNode, CannotOpen, StrangeState, StrangeEntry, ShortRoom, NotAscending}
 
 -- ---- a question about a graph
 module _ (n : ℕ) (rows : List ℕ) where
   asked_small : (i : ℕ) (more : List Line) (r : Refusal) → SmallLines more → first_said (asked_lines n rows i more) ≡ Refused r → Small r
   asked_small i more r p =
-      counted n (length rows) ((rows_lines n rows 0 n ++ line 8 0 (many_edges n rows) ∷ []) ++ line 9 0 (no_node n i) ∷ more) r
-      (λ h. small_append (rows_lines n rows 0 n ++ line 8 0 (many_edges n rows) ∷ []) (line 9 0 (no_node n i) ∷ more) (graph_rest n rows h) (alone 9 refl, p))
+      counted n (length rows) ((rows_lines n rows 0 n ++ line ManyEdges 0 (many_edges n rows) ∷ []) ++ line NoNode 0 (no_node n i) ∷ more) r
+      (λ h. small_append (rows_lines n rows 0 n ++ line ManyEdges 0 (many_edges n rows) ∷ []) (line NoNode 0 (no_node n i) ∷ more) (graph_rest n rows h) (alone NoNode refl, p))
 
   pub node_small : (i : ℕ) (r : Refusal) → check_node_of n rows i ≡ Refused r → Small r
   unfolding check_node_of
@@ -68,11 +69,11 @@ module _ (n : ℕ) (rows : List ℕ) where
 
   pub list_small : (i : ℕ) (l : List ℕ) (r : Refusal) → check_list_of n rows i l ≡ Refused r → Small r
   unfolding check_list_of
-  list_small i l r = asked_small i (line 14 0 (strange_entry n l) ∷ line 18 0 (not_ascending l) ∷ []) r (alone 14 refl, (alone 18 refl, tt))
+  list_small i l r = asked_small i (line StrangeEntry 0 (strange_entry n l) ∷ line NotAscending 0 (not_ascending l) ∷ []) r (alone StrangeEntry refl, (alone NotAscending refl, tt))
 
   pub room_small : (i room : ℕ) (r : Refusal) → check_room_of n rows i room ≡ Refused r → Small r
   unfolding check_room_of
-  room_small i room r = asked_small i (line 15 0 (small_room n room) ∷ []) r (alone 15 refl, tt)
+  room_small i room r = asked_small i (line ShortRoom 0 (small_room n room) ∷ []) r (alone ShortRoom refl, tt)
 
 -- ---- one controller
 module _ (n me : ℕ) (row : List ℕ) where
@@ -80,19 +81,19 @@ module _ (n me : ℕ) (row : List ℕ) where
   unfolding no_node
   owned more r p =
       let own_row = row_lines n me (row_at row 0) in
-      first_small (line 1 0 (wrong_own n (length row))) (line 9 0 (no_node n me) ∷ own_row ++ more) r (alone 1 refl)
-      (λ e. first_small (line 9 0 (no_node n me)) (own_row ++ more) r (alone 9 refl)
+      first_small (line WrongCount 0 (wrong_own n (length row))) (line NoNode 0 (no_node n me) ∷ own_row ++ more) r (alone WrongCount refl)
+      (λ e. first_small (line NoNode 0 (no_node n me)) (own_row ++ more) r (alone NoNode refl)
       (λ f. let here : me < 256 = omega (arith, (right_own n (length row) e).0, leb-false n me f) in
       lines_small (own_row ++ more) r (small_append own_row more (row_small n me (row_at row 0) here) p)))
 
   module _ (ins : ℕ) (s : State) where
     pub open_small : (round : ℕ) (r : Refusal) → check_open_of n me row ins s round ≡ Refused r → Small r
     unfolding check_open_of
-    open_small round r = owned (line 13 0 (strange_kept n s ins) ∷ line 10 0 (cannot_open s.round round) ∷ []) r (alone 13 refl, (alone 10 refl, tt))
+    open_small round r = owned (line StrangeState 0 (strange_kept n s ins) ∷ line CannotOpen 0 (cannot_open s.round round) ∷ []) r (alone StrangeState refl, (alone CannotOpen refl, tt))
 
     pub deliver_small : (m : Message) (r : Refusal) → check_deliver_of n me row ins s m ≡ Refused r → Small r
     unfolding check_deliver_of
-    deliver_small m r = owned (line 13 0 (strange_kept n s ins) ∷ line 13 0 (strange_message n m) ∷ []) r (alone 13 refl, (alone 13 refl, tt))
+    deliver_small m r = owned (line StrangeState 0 (strange_kept n s ins) ∷ line StrangeState 0 (strange_message n m) ∷ []) r (alone StrangeState refl, (alone StrangeState refl, tt))
 
 -- ---- what a controller and a bench answer
 plain : Plain SmallAnswer
@@ -116,8 +117,8 @@ module _ (n : ℕ) (rows : List ℕ) (b : Bench) where
   unfolding step_on
   step_answers s = go (strange_bench n rows b)
     where
-      go : (t : Bool) → SmallAnswer (cond t (refuse 13 b) (take_step (waits_of n rows) b s)).answer
-      go true = alone 13 refl
+      go : (t : Bool) → SmallAnswer (cond t (refuse StrangeState b) (take_step (waits_of n rows) b s)).answer
+      go true = alone StrangeState refl
       go false = step_answer SmallAnswer plain (λ number g h. (omega (arith, g), omega (arith, h), omega arith)) (waits_of n rows) b s
 
   pub run_small : (steps answers : List ℕ) (r : Refusal) → (run_of n rows b steps answers).checked ≡ Refused r → Small r
@@ -125,8 +126,8 @@ module _ (n : ℕ) (rows : List ℕ) (b : Bench) where
   run_small steps answers r = go (strange_bench n rows b) (ltb (length answers) (length steps)) _ _
     where
       go : (p q : Bool) (c : Bench) (l : List ℕ) → (cond p (refuse_all 13 b answers) (cond q (refuse_all 15 b answers) (run c l Accepted))).checked ≡ Refused r → Small r
-      go true q c l e = let same : refusal 13 ≡ r = cc e in subst Small same (alone 13 refl)
-      go false true c l e = let same : refusal 15 ≡ r = cc e in subst Small same (alone 15 refl)
+      go true q c l e = let same : refusal 13 ≡ r = cc e in subst Small same (alone StrangeState refl)
+      go false true c l e = let same : refusal 15 ≡ r = cc e in subst Small same (alone ShortRoom refl)
       go false false c l e = absurd (refused_not_accepted (sym e))
 
 -- ---- what is answered of a graph

@@ -8,7 +8,7 @@ use Rattle.lemmas.proofs.Cases.{at_true, at_false}
 use Rattle.records.specs.declared.messages.Message.{Message}
 use Rattle.records.specs.declared.records.Record.{Record}
 use Rattle.records.specs.Records.{state_of}
-use Rattle.waits.specs.declared.numbers.Refusal.{Refusal}
+use Rattle.waits.specs.declared.refusals.Refusal.{Refusal}
 use Rattle.waits.specs.declared.numbers.Checked.{Checked}
 use Rattle.waits.specs.declared.numbers.Checked.TheVariants.{Refused as Checked-as-Refused}
 use Rattle.step.specs.declared.answers.Answer.{Answer}

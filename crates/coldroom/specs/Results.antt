@@ -1,6 +1,6 @@
 -- The one number that each call hands back. Assumes nothing.
 use Rattle.std.specs.Prelude.{ℕ, ◌+◌, ◌*◌}
-use Rattle.waits.specs.declared.numbers.Refusal.{Refusal}
+use Rattle.waits.specs.declared.refusals.Refusal.{Refusal}
 use Rattle.waits.specs.declared.numbers.Checked.{Checked}
 use Rattle.waits.specs.declared.numbers.Checked.TheVariants.{Accepted, Refused}
 use Rattle.deadlock.specs.declared.claims.Found.{Found}

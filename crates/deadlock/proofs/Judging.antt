@@ -16,7 +16,7 @@ use Rattle.nodes.specs.declared.Node.{Node}
 use Rattle.nodes.specs.Sets.{has, set_of}
 use Rattle.nodes.proofs.Bit.{has_in, in_has}
 use Rattle.nodes.proofs.Gather.{list_in, in_list}
-use Rattle.waits.specs.declared.numbers.Refusal.{Refusal}
+use Rattle.waits.specs.declared.refusals.Refusal.{Refusal}
 use Rattle.waits.specs.Waits.{Waits}
 use Rattle.waits.specs.Deadlocked.{outside, passes}
 use Rattle.waits.specs.Rows.{waits_of}

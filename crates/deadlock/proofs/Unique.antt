@@ -12,7 +12,7 @@ use Rattle.nodes.specs.Sets.{In}
 use Rattle.nodes.specs.Words.{num}
 use Rattle.nodes.proofs.Inside.{same_nodes}
 use Rattle.nodes.proofs.Words.{same_set}
-use Rattle.waits.specs.declared.numbers.Refusal.{Refusal}
+use Rattle.waits.specs.declared.refusals.Refusal.{Refusal}
 use Rattle.waits.specs.Waits.{Waits}
 use Rattle.waits.proofs.Table.{refused_not_accepted}
 use Rattle.deadlock.specs.declared.ring.Report.{Report}

@@ -3,7 +3,7 @@ use Rattle.std.specs.Prelude.{◌≡◌, cond, ◌↔◌, ℕ, length, drop, Res
 use mathlib.Core.List.{List, [], ◌∷◌, ◌++◌, Memᴰ}
 use Rattle.lemmas.specs.Lists.{Ascending}
 use Rattle.nodes.specs.Sets.{has, set_of}
-use Rattle.waits.specs.declared.numbers.Refusal.{Refusal}
+use Rattle.waits.specs.declared.refusals.Refusal.{Refusal}
 use Rattle.waits.specs.Waits.{Waits}
 use Rattle.waits.specs.Deadlocked.{Deadlocked, Reachable, outside}
 use Rattle.waits.specs.Rows.{waits_of}

@@ -3,8 +3,9 @@
 use Rattle.std.specs.Prelude.{Bool, not, List, [], ◌∷◌, ◌++◌, ℕ, ltb, Result}
 use Rattle.lemmas.specs.Lists.{any_of, ascending}
 use Rattle.nodes.specs.Sets.{no_node}
-use Rattle.waits.specs.declared.numbers.Refusal.{Refusal}
+use Rattle.waits.specs.declared.refusals.Refusal.{Refusal}
 use Rattle.waits.specs.Numbers.{Line, line, graph_lines, first_said}
+use Rattle.waits.specs.declared.refusals.Reason.TheVariants.{NoNode, StrangeEntry, ShortRoom, NotAscending}
 
 -- 14: some entry of the list isn't the number of a node
 unfoldable pub strange_entry : ℕ → List ℕ → Bool
@@ -20,14 +21,14 @@ small_room n room = ltb room n
 
 -- The graph's own numbers; then 9: the question is about no node of it; then what the question adds. From 9 on none is of a row.
 abbrev pub asked_lines : ℕ → List ℕ → ℕ → List Line → List Line
-asked_lines n rows i more = graph_lines n rows ++ line 9 0 (no_node n i) ∷ more
+asked_lines n rows i more = graph_lines n rows ++ line NoNode 0 (no_node n i) ∷ more
 
 -- with a list, 14 and then 18; with so many lent bytes, 15
 abbrev pub list_lines : ℕ → List ℕ → ℕ → List ℕ → List Line
-list_lines n rows i l = asked_lines n rows i (line 14 0 (strange_entry n l) ∷ line 18 0 (not_ascending l) ∷ [])
+list_lines n rows i l = asked_lines n rows i (line StrangeEntry 0 (strange_entry n l) ∷ line NotAscending 0 (not_ascending l) ∷ [])
 
 abbrev pub room_lines : ℕ → List ℕ → ℕ → ℕ → List Line
-room_lines n rows i room = asked_lines n rows i (line 15 0 (small_room n room) ∷ [])
+room_lines n rows i room = asked_lines n rows i (line ShortRoom 0 (small_room n room) ∷ [])
 
 -- what the check of a question about node i answers; of one that comes with a list; of one that comes with lent room
 unfoldable pub check_node_of : ℕ → List ℕ → ℕ → Result Unit Refusal

@@ -1,6 +1,6 @@
 -- The ring report: where a deadlocked claim stands. Assumes nothing.
 use Rattle.std.specs.Prelude.{◌≡◌, List, ℕ, Result, Ok, Err}
-use Rattle.waits.specs.declared.numbers.Refusal.{Refusal}
+use Rattle.waits.specs.declared.refusals.Refusal.{Refusal}
 use Rattle.waits.specs.Waits.{Waits}
 use Rattle.waits.specs.Deadlocked.{Deadlocked, Path}
 use Rattle.waits.specs.Deadlocked.Path.{edge, then}

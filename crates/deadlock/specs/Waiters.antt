@@ -2,7 +2,7 @@
 use Rattle.std.specs.Prelude.{◌≡◌, List, ℕ, Result, Ok, Err}
 use Rattle.nodes.specs.declared.Set.{Set}
 use Rattle.nodes.specs.Words.{num}
-use Rattle.waits.specs.declared.numbers.Refusal.{Refusal}
+use Rattle.waits.specs.declared.refusals.Refusal.{Refusal}
 use Rattle.waits.specs.Waits.{in_of}
 use Rattle.waits.specs.Rows.{waits_of}
 use Rattle.deadlock.specs.Refusals.{check_node_of}

@@ -5,7 +5,7 @@ ghost use Rattle.waits.specs.Graph.{GraphSays};
 ghost use Rattle.deadlock.specs.Refusals.{strange_entry, check_node_of, check_list_of, check_room_of};
 
 use nodes::Node;
-use waits::{Graph, Refusal};
+use waits::{Graph, Reason, Refusal};
 
 // The node that an entry of a list names.
 pub fn named(entry: u8) -> Node
@@ -14,12 +14,12 @@ pub fn named(entry: u8) -> Node
     Node(entry as usize)
 }
 
-// The refusal with a number that is not of a row.
-fn of_no_row(number: u64) -> Refusal
-    ensures { result ≡ record { number = number; row = record { 0 = 0 } } }
+// The refusal for a reason that is not of a row.
+fn of_no_row(reason: Reason) -> Refusal
+    ensures { result ≡ record { reason = reason; row = record { 0 = 0 } } }
 {
     Refusal {
-        number,
+        reason,
         row: Node(0),
     }
 }
@@ -31,7 +31,7 @@ pub fn check_node(nodes: usize, rows: &[u64], i: Node) -> Result<Graph, Refusal>
 {
     let graph = Graph::checked(nodes, rows)?;
     if nodes <= i.0 {
-        return Err(of_no_row(9));
+        return Err(of_no_row(Reason::NoNode));
     }
     Ok(graph)
 }
@@ -62,10 +62,10 @@ pub fn check_list<'a>(
 {
     let graph = check_node(nodes, rows, i)?;
     if strange_entry(nodes, list) {
-        return Err(of_no_row(14));
+        return Err(of_no_row(Reason::StrangeEntry));
     }
     if !ascends(list) {
-        return Err(of_no_row(18));
+        return Err(of_no_row(Reason::NotAscending));
     }
     Ok(graph)
 }
@@ -77,7 +77,7 @@ pub fn check_room(nodes: usize, rows: &[u64], i: Node, room: usize) -> Result<Gr
 {
     let graph = check_node(nodes, rows, i)?;
     if room < nodes {
-        return Err(of_no_row(15));
+        return Err(of_no_row(Reason::ShortRoom));
     }
     Ok(graph)
 }

@@ -27,6 +27,7 @@ use Rattle.bench.specs.Strange.{strange_bench}
 use Rattle.bench.specs.Steps.{refuse, join, open_at, take_step, step_on}
 use Rattle.bench.proofs.Sound.{good_sound}
 use Rattle.demands.specs.Turns.{accepted, opening}
+use Rattle.waits.specs.declared.refusals.Reason.TheVariants.{NoNode, CannotOpen, FullRoom, StrangeState}
 
 -- ---- on a bench: it isn't refused, so the graph is lawful and the node there is
 module _ (n : ℕ) (rows : List ℕ) (b : Bench) (s round : ℕ) (v : Verdict) where
@@ -39,7 +40,7 @@ module _ (n : ℕ) (rows : List ℕ) (b : Bench) (s round : ℕ) (v : Verdict) w
       go (strange_bench n rows b) (no_node n s) (cannot_open b.highest round) (ltb (room b) (b.sent + length (letters_of s begun.state.round begun.sends))) refl refl _
     where
       go : (p q r t : Bool) → strange_bench n rows b ≡ p → no_node n s ≡ q → (next : Bench)
-          → (cond p (refuse 13 b) (cond q (refuse 9 b) (cond r (refuse 10 b) (cond t (refuse 12 b) (after next begun.answer))))).answer ≡ Opened v
+          → (cond p (refuse StrangeState b) (cond q (refuse NoNode b) (cond r (refuse CannotOpen b) (cond t (refuse FullRoom b) (after next begun.answer))))).answer ≡ Opened v
           → v ≡ said_at_once (seen_in (waits_of n rows) s)
       go true q r t e f next h = absurd (false≢true (ap accepted h))
       go false true r t e f next h = absurd (false≢true (ap accepted h))

@@ -27,6 +27,7 @@ use Rattle.node.specs.Calls.{own, unless_refused, open_of, deliver_of}
 use Rattle.node.proofs.Refused.{kept_next, open_next, deliver_next}
 use Rattle.node.proofs.Whole.{own_seen}
 use Rattle.demands.specs.Alone.{OwnRow}
+use Rattle.waits.specs.declared.refusals.Reason.TheVariants.{WrongCount, StrangeKind, StrangeMember, WaitsOnItself, WrongThreshold, ExtraSet, BadSets, NoNode, CannotOpen, StrangeState}
 
 module _ (n : ℕ) (rows : List ℕ) (ok : check_of n rows ≡ Accepted) (i : ℕ) (row : List ℕ) (told : OwnRow n rows i row) (s : State) (fine : strange_record n s ≡ false) where
   abbrev ins : ℕ
@@ -47,9 +48,9 @@ module _ (n : ℕ) (rows : List ℕ) (ok : check_of n rows ≡ Accepted) (i : �
   own_accepted : check_own_of n i row ≡ Accepted
   unfolding check_own_of
   own_accepted = λ j.
-      first_said (line 1 0 (right_own j) ∷ line 9 0 (a_node j)
-      ∷ line 2 i (row_fine.kind j) ∷ line 3 i (row_fine.member j) ∷ line 4 i (row_fine.itself j)
-      ∷ line 5 i (row_fine.threshold j) ∷ line 6 i (row_fine.extra j) ∷ line 7 i (row_fine.sets j) ∷ [])
+      first_said (line WrongCount 0 (right_own j) ∷ line NoNode 0 (a_node j)
+      ∷ line StrangeKind i (row_fine.kind j) ∷ line StrangeMember i (row_fine.member j) ∷ line WaitsOnItself i (row_fine.itself j)
+      ∷ line WrongThreshold i (row_fine.threshold j) ∷ line ExtraSet i (row_fine.extra j) ∷ line BadSets i (row_fine.sets j) ∷ [])
 
   -- 13: its record can be, and everybody who waits on it is a node
   right_kept : strange_kept n s ins ≡ false
@@ -57,7 +58,7 @@ module _ (n : ℕ) (rows : List ℕ) (ok : check_of n rows ≡ Accepted) (i : �
   right_kept = ap₂ ◌||◌ fine (ap not (of_inside ins (below n) (ins_inside (waits_of n rows) i)))
 
   kept_accepted : check_kept_of n i row ins s ≡ Accepted
-  kept_accepted = sym (not_refused (line 13 0 (strange_kept n s ins)) (kept_next n i row ins s) own_accepted right_kept)
+  kept_accepted = sym (not_refused (line StrangeState 0 (strange_kept n s ins)) (kept_next n i row ins s) own_accepted right_kept)
 
   -- ---- the two calls: what it sees is what the graph's node sees
   sees : own i row ins ≡ seen_in (waits_of n rows) i
@@ -68,12 +69,12 @@ module _ (n : ℕ) (rows : List ℕ) (ok : check_of n rows ≡ Accepted) (i : �
   unfolding open_of
   opens round above last =
       ap (unless_refused s (open_round (own i row ins) round))
-      (sym (not_refused (line 10 0 (cannot_open s.round round)) (open_next n i row ins s round) kept_accepted ((opens_iff s.round round).1 (above, last))))
+      (sym (not_refused (line CannotOpen 0 (cannot_open s.round round)) (open_next n i row ins s round) kept_accepted ((opens_iff s.round round).1 (above, last))))
       ∙ ap (λ (o : Seen). open_round o round) sees
 
   pub takes : (m : Message) → strange_message n m ≡ false → deliver_of n i row ins s m ≡ receive (seen_in (waits_of n rows) i) s (letter_of m)
   unfolding deliver_of
   takes m can-be =
       ap (unless_refused s (receive (own i row ins) s (letter_of m)))
-      (sym (not_refused (line 13 0 (strange_message n m)) (deliver_next n i row ins s m) kept_accepted can-be))
+      (sym (not_refused (line StrangeState 0 (strange_message n m)) (deliver_next n i row ins s m) kept_accepted can-be))
       ∙ ap (λ (o : Seen). receive o s (letter_of m)) sees

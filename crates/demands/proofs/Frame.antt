@@ -24,6 +24,7 @@ use Rattle.bench.specs.Strange.{strange_bench}
 use Rattle.bench.specs.Steps.{letter_at, refuse, join, open_at, arrive_at, deliver_at, take_step, step_on}
 use Rattle.rounds.specs.History.{Event, node_of}
 use Rattle.demands.specs.Turns.{Leaves, turn, event_of}
+use Rattle.waits.specs.declared.refusals.Reason.TheVariants.{NoStep, FullRoom}
 
 -- ---- a run of numbers that is stored: the list in front of it, and the list behind it
 sets_front : (vs l : List ℕ) (i n : ℕ) → n ≤ i → take n (sets l i vs) ≡ take n l
@@ -43,7 +44,7 @@ module _ (b : Bench) where
     new = letters_of i out.state.round out.sends
 
     joins : (t : Bool) → ltb (room b) (b.sent + length new) ≡ t
-        → Leaves b i (cond t (refuse 12 b)
+        → Leaves b i (cond t (refuse FullRoom b)
         (after (bench (put_state b.records i out.state) (sets b.messages b.sent (map number_of new)) (b.sent + length new) highest) out.answer)).bench
     unfolding put_state
     joins true e = nothing i
@@ -89,7 +90,7 @@ module _ (n : ℕ) (rows : List ℕ) (b : Bench) (x : Step) where
   step_leaves = or_leaves b (strange_bench n rows b) 13 _ _ (go (eqb x.kind 0) (eqb x.kind 1))
     where
       go : (p q : Bool) → Leaves b (node_of (cond p (Event.opens x.a x.b) (Event.arrives (letter_at b x.a))))
-          (cond p (open_at w b x.a x.b) (cond q (deliver_at w b x.a) (refuse 11 b))).bench
+          (cond p (open_at w b x.a x.b) (cond q (deliver_at w b x.a) (refuse NoStep b))).bench
       go true q = open_leaves
       go false true = deliver_leaves
       go false false = nothing b _

@@ -30,12 +30,13 @@ use Rattle.rounds.specs.History.{Event, node_of, outcome, since, highest_in, His
 use Rattle.rounds.proofs.Put.{put_all}
 use Rattle.demands.specs.Turns.{turn, event_of}
 use Rattle.demands.proofs.Stands.{Stands, sent_count, letter_sent}
+use Rattle.waits.specs.declared.refusals.Reason.TheVariants.{NoNode, CannotOpen, NoStep, FullRoom}
 
 -- A step with event e: refused with a number up to 11; or with 12, though the history may go on so; or taken. Then the history has
 -- gone on, the answer is the rules' own, and every message sent before is still there.
 pub data Onward (n : ℕ) (rows : List ℕ) (b : Bench) (l : List Event) (e : Event) : After → Type 0 where
   refused : (number : ℕ) → number ≤ 11 → Onward n rows b l e (refuse number b)
-  full : History (waits_of n rows) (e ∷ l) → room b < length (since (waits_of n rows) (e ∷ l)).sent → Onward n rows b l e (refuse 12 b)
+  full : History (waits_of n rows) (e ∷ l) → room b < length (since (waits_of n rows) (e ∷ l)).sent → Onward n rows b l e (refuse FullRoom b)
   taken : (next : Bench) → Stands n rows next (e ∷ l) → b.sent ≤ next.sent
       → ((k : ℕ) → k < b.sent → get_or next.messages k 0 ≡ get_or b.messages k 0)
       → Onward n rows b l e (after next (outcome (waits_of n rows) (since (waits_of n rows) l) e).answer)
@@ -77,8 +78,8 @@ module _ {n : ℕ} {rows : List ℕ} {b : Bench} {l : List Event} (st : Stands n
     unfolding since
     next_count = length-append (since w l).sent new ∙ ap (λ (x : ℕ). x + length new) (sym (sent_count st))
 
-    joins : (t : Bool) → ltb (room b) (b.sent + length new) ≡ t → Good n rows (cond t (refuse 12 b) (after next out.answer)).bench
-        → Onward n rows b l e (cond t (refuse 12 b) (after next out.answer))
+    joins : (t : Bool) → ltb (room b) (b.sent + length new) ≡ t → Good n rows (cond t (refuse FullRoom b) (after next out.answer)).bench
+        → Onward n rows b l e (cond t (refuse FullRoom b) (after next out.answer))
     joins true f good = Onward.full history (let h = ltb-true (room b) (b.sent + length new) f in omega (arith, next_count))
     joins false f good =
         let h : b.sent + length new ≤ room b = ltb-false (room b) (b.sent + length new) f in
@@ -97,10 +98,10 @@ module _ {n : ℕ} {rows : List ℕ} {b : Bench} {l : List Event} (st : Stands n
   open_onward i round = go (no_node n i) (cannot_open b.highest round) refl refl
     where
       go : (p q : Bool) → no_node n i ≡ p → cannot_open b.highest round ≡ q
-          → Good n rows (cond p (refuse 9 b) (cond q (refuse 10 b) (join b round i (open_round (seen_in w i) round)))).bench
-          → Onward n rows b l (Event.opens i round) (cond p (refuse 9 b) (cond q (refuse 10 b) (join b round i (open_round (seen_in w i) round))))
-      go true q f g good = Onward.refused 9 (omega arith)
-      go false true f g good = Onward.refused 10 (omega arith)
+          → Good n rows (cond p (refuse NoNode b) (cond q (refuse CannotOpen b) (join b round i (open_round (seen_in w i) round)))).bench
+          → Onward n rows b l (Event.opens i round) (cond p (refuse NoNode b) (cond q (refuse CannotOpen b) (join b round i (open_round (seen_in w i) round))))
+      go true q f g good = Onward.refused NoNode (omega arith)
+      go false true f g good = Onward.refused CannotOpen (omega arith)
       go false false f g good =
           let h = leb-false n i f in
           join_onward (Event.opens i round) (h, ap (λ (x : ℕ). cannot_open x round) (sym st.highest) ∙ g, st.history) good
@@ -122,9 +123,9 @@ module _ {n : ℕ} {rows : List ℕ} {b : Bench} {l : List Event} (st : Stands n
   unfolding deliver_at
   deliver_onward k = go (leb b.sent k) refl
     where
-      go : (t : Bool) → leb b.sent k ≡ t → Good n rows (cond t (refuse 11 b) (arrive_at w b (letter_at b k))).bench
-          → Onward n rows b l (Event.arrives (letter_at b k)) (cond t (refuse 11 b) (arrive_at w b (letter_at b k)))
-      go true f good = Onward.refused 11 (omega arith)
+      go : (t : Bool) → leb b.sent k ≡ t → Good n rows (cond t (refuse NoStep b) (arrive_at w b (letter_at b k))).bench
+          → Onward n rows b l (Event.arrives (letter_at b k)) (cond t (refuse NoStep b) (arrive_at w b (letter_at b k)))
+      go true f good = Onward.refused NoStep (omega arith)
       go false f good = arrive_onward k (leb-false b.sent k f) good
 
   -- ---- any step
@@ -133,12 +134,12 @@ module _ {n : ℕ} {rows : List ℕ} {b : Bench} {l : List Event} (st : Stands n
     unfolding take_step event_of
     take_onward = go (eqb x.kind 0) (eqb x.kind 1)
       where
-        go : (p q : Bool) → Good n rows (cond p (open_at w b x.a x.b) (cond q (deliver_at w b x.a) (refuse 11 b))).bench
+        go : (p q : Bool) → Good n rows (cond p (open_at w b x.a x.b) (cond q (deliver_at w b x.a) (refuse NoStep b))).bench
             → Onward n rows b l (cond p (Event.opens x.a x.b) (Event.arrives (letter_at b x.a)))
-            (cond p (open_at w b x.a x.b) (cond q (deliver_at w b x.a) (refuse 11 b)))
+            (cond p (open_at w b x.a x.b) (cond q (deliver_at w b x.a) (refuse NoStep b)))
         go true q good = open_onward x.a x.b good
         go false true good = deliver_onward x.a good
-        go false false good = Onward.refused 11 (omega arith)
+        go false false good = Onward.refused NoStep (omega arith)
 
     -- Theorem: whatever the step is.
     pub step_onward : Onward n rows b l (event_of (turn n rows b x)) (step_on n rows b x)

@@ -25,6 +25,7 @@ use Rattle.demands.specs.Turns.{Turn, turns, after_steps, accepted, opening, eve
 use Rattle.demands.specs.Refusals.{step_lines}
 use Rattle.demands.proofs.Said.{says_accepted, step_says}
 use Rattle.demands.proofs.Heard.{turn_kept, turn_gave, turn_heard, heard_turn}
+use Rattle.waits.specs.declared.refusals.Reason.TheVariants.{NoStep}
 
 -- ---- events
 same_opener : {i s r round : ℕ} → Event.opens i r ≡ Event.opens s round → i ≡ s
@@ -75,7 +76,7 @@ module _ (n : ℕ) (rows messages : List ℕ) (steps : List Step) where
       leb-false b.sent x.a
       (and_rest (leb b.sent x.a) (eq-eqb x.kind 1 e)
       (or_left_false (eqb x.kind 1 && leb b.sent x.a) _
-      (accepted_silent (step_lines n rows b x) said (line 11 0 _) (there (there (there (here refl)))))))
+      (accepted_silent (step_lines n rows b x) said (line NoStep 0 _) (there (there (there (here refl)))))))
 
   -- Theorem: a message that was delivered, and not refused, arrived in the history, whatever was sent after it.
   pub arrived_heard : check_of n rows ≡ Accepted → (k : ℕ) → Arrived past k

@@ -12,7 +12,7 @@ use lib.Seq.{sets}
 use Rattle.records.specs.declared.messages.Message.{Message}
 use Rattle.records.specs.Messages.{letter_of}
 use Rattle.records.specs.Records.{State}
-use Rattle.waits.specs.declared.numbers.Refusal.{Refusal}
+use Rattle.waits.specs.declared.refusals.Refusal.{Refusal}
 use Rattle.waits.specs.declared.numbers.Checked.{Checked}
 use Rattle.waits.specs.declared.numbers.Checked.TheVariants.{Accepted, Refused}
 use Rattle.waits.specs.Numbers.{first_said, Gives}

@@ -9,7 +9,7 @@ use native.Mathlib.Omega.{arith}
 use lib.ListN.{drop}
 use Rattle.nodes.specs.Sets.{In}
 use Rattle.records.specs.Messages.{Letter}
-use Rattle.waits.specs.declared.numbers.Refusal.{Refusal}
+use Rattle.waits.specs.declared.refusals.Refusal.{Refusal}
 use Rattle.waits.specs.declared.numbers.Checked.TheVariants.{Accepted}
 use Rattle.waits.specs.Waits.{Waits, edges}
 use Rattle.waits.specs.Deadlocked.{Reachable}

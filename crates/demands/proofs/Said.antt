@@ -12,7 +12,7 @@ use Rattle.nodes.specs.Sets.{no_node}
 use Rattle.records.specs.Rounds.{cannot_open}
 use Rattle.records.specs.Messages.{Letter}
 use Rattle.records.specs.Records.{State}
-use Rattle.waits.specs.declared.numbers.Refusal.{Refusal}
+use Rattle.waits.specs.declared.refusals.Refusal.{Refusal}
 use Rattle.waits.specs.declared.numbers.Checked.{Checked}
 use Rattle.waits.specs.declared.numbers.Checked.TheVariants.{Accepted, Refused}
 use Rattle.waits.specs.Waits.{Waits}
@@ -30,6 +30,7 @@ use Rattle.bench.specs.Strange.{strange_bench}
 use Rattle.bench.specs.Steps.{letter_at, refuse, join, open_at, arrive_at, deliver_at, take_step, step_on}
 use Rattle.demands.specs.Turns.{accepted}
 use Rattle.demands.specs.Refusals.{sends_of, would_send, step_lines}
+use Rattle.waits.specs.declared.refusals.Reason.TheVariants.{NoStep}
 
 -- ---- what a node answers is no refusal
 pub not_refused : {a : Answer} {r : Refusal} → accepted a ≡ true → a ≡ Answer-as-Refused r → ⊥
@@ -119,7 +120,7 @@ module _ (b : Bench) where
     step_says = by_line (strange_bench n rows b) 13 _ _ (go (eqb x.kind 0) (eqb x.kind 1) refl refl)
       where
         go : (p q : Bool) → eqb x.kind 0 ≡ p → eqb x.kind 1 ≡ q
-            → Says b (cond p (open_at w b x.a x.b) (cond q (deliver_at w b x.a) (refuse 11 b)))
+            → Says b (cond p (open_at w b x.a x.b) (cond q (deliver_at w b x.a) (refuse NoStep b)))
             (cond (p && no_node n x.a) (Refused (refusal 9)) (cond (p && cannot_open b.highest x.b) (Refused (refusal 10))
             (cond (q && leb b.sent x.a || not (p || q)) (Refused (refusal 11))
             (cond (ltb (room b) (b.sent + cond p (sends_of x.a begun) (sends_of m.to got))) (Refused (refusal 12)) Accepted))))

@@ -21,6 +21,7 @@ use Rattle.bench.specs.Steps.{step_on}
 use Rattle.demands.specs.Turns.{accepted, Unless12, opening, delivery}
 use Rattle.demands.specs.Refusals.{would_send, step_lines}
 use Rattle.demands.proofs.Said.{Says, says_accepted, step_says}
+use Rattle.waits.specs.declared.refusals.Reason.TheVariants.{CannotOpen}
 
 -- ---- rounds are compared as numbers
 pub as_numbers : (round own : ℕ) → ((behind round own ≡ true) ↔ (round < own)) × ((ahead round own ≡ true) ↔ (own < round))
@@ -50,7 +51,7 @@ module _ (n : ℕ) (rows : List ℕ) (b : Bench) (s round : ℕ) where
   opens_only e =
       let lines = step_lines n rows b (opening s round) in
       let said = says_accepted b tried (first_said lines) (step_says b n rows (opening s round)) e in
-      (opens_iff b.highest round).0 (accepted_silent lines said (line 10 0 (cannot_open b.highest round)) (there (there (here refl))))
+      (opens_iff b.highest round).0 (accepted_silent lines said (line CannotOpen 0 (cannot_open b.highest round)) (there (there (here refl))))
 
 -- ---- which messages can be delivered
 module _ (n : ℕ) (rows : List ℕ) (b : Bench) (k : ℕ) where

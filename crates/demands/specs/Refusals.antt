@@ -12,6 +12,7 @@ use Rattle.lent.specs.Kept.{state_at}
 use Rattle.bench.specs.Bench.{Bench, room}
 use Rattle.bench.specs.Strange.{strange_bench}
 use Rattle.bench.specs.Steps.{letter_at}
+use Rattle.waits.specs.declared.refusals.Reason.TheVariants.{NoNode, CannotOpen, NoStep, FullRoom, StrangeState, ShortRoom}
 
 -- how many messages a step sends
 abbrev pub sends_of : ℕ → Outcome → ℕ
@@ -26,13 +27,13 @@ would_send w b x =
 -- 13; then 9 and 10 of an opening, 11 of a delivery and of a kind of step that there isn't; then 12. None is of a row.
 abbrev pub step_lines : ℕ → List ℕ → Bench → Step → List Line
 step_lines n rows b x =
-    line 13 0 (strange_bench n rows b)
-    ∷ line 9 0 (eqb x.kind 0 && no_node n x.a)
-    ∷ line 10 0 (eqb x.kind 0 && cannot_open b.highest x.b)
-    ∷ line 11 0 (eqb x.kind 1 && leb b.sent x.a || not (eqb x.kind 0 || eqb x.kind 1))
-    ∷ line 12 0 (ltb (room b) (b.sent + would_send (waits_of n rows) b x))
+    line StrangeState 0 (strange_bench n rows b)
+    ∷ line NoNode 0 (eqb x.kind 0 && no_node n x.a)
+    ∷ line CannotOpen 0 (eqb x.kind 0 && cannot_open b.highest x.b)
+    ∷ line NoStep 0 (eqb x.kind 1 && leb b.sent x.a || not (eqb x.kind 0 || eqb x.kind 1))
+    ∷ line FullRoom 0 (ltb (room b) (b.sent + would_send (waits_of n rows) b x))
     ∷ []
 
 -- of a list as a whole: 13, then 15
 abbrev pub run_lines : ℕ → List ℕ → Bench → List ℕ → List ℕ → List Line
-run_lines n rows b steps answers = line 13 0 (strange_bench n rows b) ∷ line 15 0 (ltb (length answers) (length steps)) ∷ []
+run_lines n rows b steps answers = line StrangeState 0 (strange_bench n rows b) ∷ line ShortRoom 0 (ltb (length answers) (length steps)) ∷ []

@@ -26,6 +26,7 @@ use Rattle.bench.specs.Bench.{fresh}
 use Rattle.bench.specs.Runs.{Run, run_of}
 use Rattle.rounds.specs.Course.{after, Course, ended}
 use Rattle.rounds.specs.Verdicts.{verdicts}
+use Rattle.waits.specs.declared.refusals.Reason.TheVariants.{WrongThreshold, NotAscending}
 
 module _ (n : ℕ) (rows : List ℕ) where
   abbrev w : Waits
@@ -76,7 +77,7 @@ pub record Table : Type 0 where
   -- 3: there {1, 3, 4, 5, 7, 8} passes for 1; {1, 3, 5} doesn't (4 is outside). It fails at 1; from behind it is refused.
   pub third_passes : judged_of 10 second_rows 0 (0 ∷ 2 ∷ 3 ∷ 4 ∷ 6 ∷ 7 ∷ []) ≡ Passes
   pub third_fails : judged_of 10 second_rows 0 (0 ∷ 2 ∷ 4 ∷ []) ≡ MemberSatisfied (record { 0 = 0 })
-  pub third_turned : judged_of 10 second_rows 0 (4 ∷ 2 ∷ 0 ∷ []) ≡ Judged-as-Refused (record { number = 18; row = record { 0 = 0 } })
+  pub third_turned : judged_of 10 second_rows 0 (4 ∷ 2 ∷ 0 ∷ []) ≡ Judged-as-Refused (record { reason = NotAscending; row = record { 0 = 0 } })
   -- 4: both deadlocked, 4 messages, from 1 or from 2. The evidence for either is both.
   pub fourth : Morning 2 fourth_rows 2 (0 ∷ 1 ∷ [])
   pub fourth_round : FullRound 2 fourth_rows 0 4 Deadlocked × FullRound 2 fourth_rows 1 4 Deadlocked
@@ -103,8 +104,8 @@ pub record Table : Type 0 where
   pub ninth_one : Morning 4 (ninth_rows 1) 5 []
   pub ninth_one_round : FullRound 4 (ninth_rows 1) 0 20 NotDeadlocked
   pub ninth_three : check_of 4 (ninth_rows 3) ≡ Accepted
-  pub ninth_none : check_of 4 (ninth_rows 0) ≡ Refused (record { number = 5; row = record { 0 = 0 } })
-  pub ninth_four : check_of 4 (ninth_rows 4) ≡ Refused (record { number = 5; row = record { 0 = 0 } })
+  pub ninth_none : check_of 4 (ninth_rows 0) ≡ Refused (record { reason = WrongThreshold; row = record { 0 = 0 } })
+  pub ninth_four : check_of 4 (ninth_rows 4) ≡ Refused (record { reason = WrongThreshold; row = record { 0 = 0 } })
   -- 10: 1, 2, 3 deadlocked. They are the evidence for 1.
   pub tenth : Morning 5 tenth_rows 6 (0 ∷ 1 ∷ 2 ∷ [])
   pub tenth_evidence : Evidence (waits_of 5 tenth_rows) 0 (0 ∷ 1 ∷ 2 ∷ [])

@@ -13,10 +13,7 @@ fn member(w: &[u8], lowest: u64) -> Option<u64>
     ensures placed { IfSome result (λ m. m < places) }
 {
     let m = number_in(w)?;
-    if m < lowest {
-        return None;
-    }
-    if PLACES as u64 <= m {
+    if m < lowest || PLACES as u64 <= m {
         return None;
     }
     Some(m)

@@ -7,13 +7,7 @@ pub fn bare(w: &[u8]) -> &[u8]
     ensures { result.now ≡ bare_of w.now }
 {
     let end = w.len();
-    if end < 2 {
-        return w;
-    }
-    if w[0] != b'"' {
-        return w;
-    }
-    if w[end - 1] != b'"' {
+    if end < 2 || w[0] != b'"' || w[end - 1] != b'"' {
         return w;
     }
     &w[1..end - 1]

@@ -14,7 +14,7 @@ use Rattle.std.specs.Prelude.{Result, Ok, Err}
 use Rattle.lemmas.specs.Lists.{any_of}
 use Rattle.lemmas.proofs.Cases.{at_true}
 use Rattle.waits.specs.declared.rows.Row.{Row}
-use Rattle.waits.specs.declared.numbers.Refusal.{Refusal}
+use Rattle.waits.specs.declared.refusals.Refusal.{Refusal}
 use Rattle.waits.specs.Rows.{flat, rows_of}
 use Rattle.waits.specs.Numbers.{check_of}
 use Rattle.waits.proofs.Flat.{flat_length, flat_rows, rows_flat}

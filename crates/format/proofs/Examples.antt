@@ -10,6 +10,7 @@ use Rattle.format.specs.Files.{read_of}
 use Rattle.format.specs.Files.Said.{Line, Refused, Graph}
 use Rattle.format.specs.Written.{file_of}
 use Rattle.format.proofs.Open.{open_format}
+use Rattle.waits.specs.declared.refusals.Reason.TheVariants.{WrongCount, StrangeKind}
 
 -- ---- cut
 two_commas : pieces comma (word "1,,23") ≡ word "1" ∷ [] ∷ word "23" ∷ []
@@ -83,7 +84,7 @@ line_first : read_of (header ++ word "0,7,0,,,,\r\n1,0,0,,,\r\n") ≡ Line 3
 unfolding open_format
 line_first = refl
 
-kind_later : read_of (header ++ word "0,7,0,,,,\r\n1,0,0,,,,\r\n") ≡ Refused (record { number = 2; row = record { 0 = 0 } })
+kind_later : read_of (header ++ word "0,7,0,,,,\r\n1,0,0,,,,\r\n") ≡ Refused (record { reason = StrangeKind; row = record { 0 = 0 } })
 unfolding open_format
 kind_later = refl
 
@@ -92,7 +93,7 @@ nothing_at_all : read_of [] ≡ Line 1
 unfolding open_format
 nothing_at_all = refl
 
-header_alone : read_of (word "node,kind,threshold,set1,set2,set3,set4") ≡ Refused (record { number = 1; row = record { 0 = 0 } })
+header_alone : read_of (word "node,kind,threshold,set1,set2,set3,set4") ≡ Refused (record { reason = WrongCount; row = record { 0 = 0 } })
 unfolding open_format
 header_alone = refl
 

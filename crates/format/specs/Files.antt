@@ -4,7 +4,7 @@ use Rattle.std.specs.Prelude.{Bool, cond, ◌&&◌, List, [], ◌∷◌, ℕ, su
 use Rattle.std.proofs.Math.Option.{Option, none, some}
 use Rattle.nodes.specs.Words.{as_set}
 use Rattle.waits.specs.declared.rows.Row.{Row}
-use Rattle.waits.specs.declared.numbers.Refusal.{Refusal}
+use Rattle.waits.specs.declared.refusals.Refusal.{Refusal}
 use Rattle.waits.specs.Rows.{flat}
 use Rattle.waits.specs.Numbers.{check_of}
 use Rattle.text.specs.Words.{word}

@@ -1,6 +1,4 @@
 // Graphs, row by row. Sets are written in binary: the last digit is node 0.
-ghost use Rattle.std.specs.Prelude.{◌≡◌, length};
-
 use crate::parts::checked;
 use std::io;
 use waits::ROW;
@@ -11,12 +9,7 @@ pub const ACTIVE: [u64; 6] = [0; 6];
 pub fn put(rows: &mut [u64], k: usize, row: [u64; 6]) {
     if k < rows.len() / ROW {
         let at = k * ROW;
-        rows[at] = row[0];
-        rows[at + 1] = row[1];
-        rows[at + 2] = row[2];
-        rows[at + 3] = row[3];
-        rows[at + 4] = row[4];
-        rows[at + 5] = row[5];
+        rows[at..at + ROW].copy_from_slice(&row);
     }
 }
 
@@ -26,16 +19,9 @@ pub fn one_of(set: u64) -> [u64; 6] {
 }
 
 // Ten rows, one after the other.
-pub fn flat(rows: [[u64; 6]; 10]) -> [u64; 60]
-    ensures { length result ≡ 60 }
-{
+pub fn flat(rows: [[u64; 6]; 10]) -> [u64; 60] {
     let mut flat = [0u64; 60];
-    let mut k: usize = 0;
-    while k < 10 {
-        let row = rows[k];
-        put(&mut flat, k, row);
-        k += 1;
-    }
+    flat.copy_from_slice(rows.as_flattened());
     flat
 }
 
@@ -54,17 +40,14 @@ const EIGHT: [u64; 9] = [
 
 // Eight nodes other than k.
 fn eight(k: usize) -> u64 {
-    if k < 8 { EIGHT[k] } else { EIGHT[8] }
+    EIGHT[k.min(8)]
 }
 
 // 64 nodes that wait on eight others each: 512 edges.
 pub fn eight_each() -> [u64; 384] {
     let mut rows = [0u64; 384];
-    let mut k: usize = 0;
-    while k < 64 {
-        let set = eight(k);
-        put(&mut rows, k, one_of(set));
-        k += 1;
+    for k in 0..64 {
+        put(&mut rows, k, one_of(eight(k)));
     }
     rows
 }
@@ -72,7 +55,7 @@ pub fn eight_each() -> [u64; 384] {
 // Puts one more row into a graph of 64 nodes, with a line on it.
 pub fn with_row(
     rt: &impl Print,
-    label: &[u8],
+    label: &str,
     rows: [u64; 384],
     k: usize,
     row: [u64; 6],

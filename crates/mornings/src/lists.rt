@@ -1,7 +1,7 @@
 // Lists that are offered as evidence in the second morning.
 use crate::mornings::second;
 use crate::parts::{about, bytes};
-use crate::say::{number, refusal, text};
+use crate::say::refusal;
 use deadlock::Judged;
 use nodes::Node;
 use std::io;
@@ -14,20 +14,16 @@ pub fn judged(
     node: usize,
     list: &[u8],
 ) -> io::Result<()> {
-    text(rt, b"list")?;
+    print!(rt; "list")?;
     bytes(rt, list, list.len())?;
     about(rt, node)?;
-    let said = deadlock::check_evidence(nodes, rows, Node(node), list);
-    match said {
-        Judged::Passes => text(rt, b"passes")?,
-        Judged::ClaimMissing => text(rt, b"fails, the claim isn't in it")?,
-        Judged::MemberSatisfied(k) => {
-            text(rt, b"fails at member ")?;
-            number(rt, k.0 as u64)?;
-        }
-        Judged::Refused(r) => refusal(rt, r)?,
+    match deadlock::check_evidence(nodes, rows, Node(node), list) {
+        Ok(Judged::Passes) => print!(rt; "passes")?,
+        Ok(Judged::ClaimMissing) => print!(rt; "fails, the claim isn't in it")?,
+        Ok(Judged::MemberSatisfied(k)) => print!(rt; "fails at member {}", k.0)?,
+        Err(r) => refusal(rt, r)?,
     }
-    text(rt, b"\n")
+    println!(rt)
 }
 
 // In the second morning.
@@ -55,10 +51,8 @@ pub fn third(rt: &impl Print) -> io::Result<()> {
 // Morning 12: the empty list, for each node.
 pub fn twelfth(rt: &impl Print) -> io::Result<()> {
     let none = [0u8; 0];
-    let mut k: usize = 0;
-    while k < 10 {
+    for k in 0..10 {
         offered(rt, k, &none)?;
-        k += 1;
     }
     Ok(())
 }

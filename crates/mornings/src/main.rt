@@ -17,25 +17,25 @@ mod runs;
 mod say;
 
 fn main(rt: HostRuntime) -> io::Result<()> {
-    say::text(&rt, b"The mornings\n")?;
+    println!(rt; "The mornings")?;
     mornings::small(&rt)?;
     mornings::ninth(&rt)?;
     mornings::eleventh(&rt)?;
-    say::text(&rt, b"\nLists\n")?;
+    println!(rt; "\nLists")?;
     lists::third(&rt)?;
     lists::twelfth(&rt)?;
-    say::text(&rt, b"\nQuestions\n")?;
+    println!(rt; "\nQuestions")?;
     questions::nodes(&rt)?;
     questions::lists(&rt)?;
     questions::rooms(&rt)?;
     questions::bad_row(&rt)?;
-    say::text(&rt, b"\nBad graphs\n")?;
+    println!(rt; "\nBad graphs")?;
     refusals::counts(&rt)?;
     refusals::rows(&rt)?;
     refusals::order(&rt)?;
-    say::text(&rt, b"\nRuns\n")?;
+    println!(rt; "\nRuns")?;
     runs::two_nodes(&rt)?;
     runs::rounds(&rt)?;
-    say::text(&rt, b"\nOrders\n")?;
+    println!(rt; "\nOrders")?;
     orders::both(&rt)
 }

@@ -54,7 +54,7 @@ pub fn second() -> [u64; 60] {
 }
 
 // What is said of the claims of the first rows of ten.
-fn graph(rt: &impl Print, label: &[u8], nodes: usize, rows: [[u64; 6]; 10]) -> io::Result<()> {
+fn graph(rt: &impl Print, label: &str, nodes: usize, rows: [[u64; 6]; 10]) -> io::Result<()> {
     let all = flat(rows);
     if nodes <= 10 {
         let end = nodes * ROW;
@@ -64,16 +64,16 @@ fn graph(rt: &impl Print, label: &[u8], nodes: usize, rows: [[u64; 6]; 10]) -> i
 }
 
 pub fn small(rt: &impl Print) -> io::Result<()> {
-    graph(rt, b"morning 1", 7, FIRST)?;
-    graph(rt, b"morning 2", 10, SECOND)?;
-    morning(rt, b"morning 4", 2, &FOURTH)?;
-    morning(rt, b"morning 5", 1, &ACTIVE)?;
-    morning(rt, b"morning 6", 2, &SIXTH)?;
-    graph(rt, b"morning 10", 5, TENTH)
+    graph(rt, "morning 1", 7, FIRST)?;
+    graph(rt, "morning 2", 10, SECOND)?;
+    morning(rt, "morning 4", 2, &FOURTH)?;
+    morning(rt, "morning 5", 1, &ACTIVE)?;
+    morning(rt, "morning 6", 2, &SIXTH)?;
+    graph(rt, "morning 10", 5, TENTH)
 }
 
 // 1 needs some of {2, 3, 4}; 2 active, 3 = 1, 4 = 1.
-fn votes(rt: &impl Print, label: &[u8], needed: u64) -> io::Result<()> {
+fn votes(rt: &impl Print, label: &str, needed: u64) -> io::Result<()> {
     let mut g = [0u64; 24];
     put(&mut g, 0, [1, needed, 0b1110, 0, 0, 0]);
     put(&mut g, 2, one_of(0b0001));
@@ -82,21 +82,21 @@ fn votes(rt: &impl Print, label: &[u8], needed: u64) -> io::Result<()> {
 }
 
 pub fn ninth(rt: &impl Print) -> io::Result<()> {
-    votes(rt, b"morning 9, 2 of 3", 2)?;
-    votes(rt, b"morning 9, 1 of 3", 1)?;
-    votes(rt, b"morning 9, 3 of 3", 3)?;
-    votes(rt, b"morning 9, 0 of 3", 0)?;
-    votes(rt, b"morning 9, 4 of 3", 4)
+    votes(rt, "morning 9, 2 of 3", 2)?;
+    votes(rt, "morning 9, 1 of 3", 1)?;
+    votes(rt, "morning 9, 3 of 3", 3)?;
+    votes(rt, "morning 9, 0 of 3", 0)?;
+    votes(rt, "morning 9, 4 of 3", 4)
 }
 
 // The limits: 64 nodes and one more, 512 edges and one more.
 pub fn eleventh(rt: &impl Print) -> io::Result<()> {
-    morning(rt, b"morning 11, 64 nodes", 64, &[0u64; 384])?;
-    morning(rt, b"morning 11, 65 nodes", 65, &[0u64; 390])?;
-    morning(rt, b"morning 11, 512 edges", 64, &eight_each())?;
+    morning(rt, "morning 11, 64 nodes", 64, &[0u64; 384])?;
+    morning(rt, "morning 11, 65 nodes", 65, &[0u64; 390])?;
+    morning(rt, "morning 11, 512 edges", 64, &eight_each())?;
     with_row(
         rt,
-        b"morning 11, 513 edges",
+        "morning 11, 513 edges",
         eight_each(),
         63,
         one_of(0b1_1111_1111),

@@ -2,7 +2,7 @@
 ghost use Rattle.std.specs.Prelude.{◌≡◌, length};
 
 use crate::rounds::full_round;
-use crate::say::{members, number, text};
+use crate::say::members;
 use lent::record_at;
 use nodes::{Node, Set};
 use records::{Cause, Why};
@@ -31,34 +31,26 @@ fn end(rt: &impl Print, records: &[u64]) -> io::Result<()>
 {
     let mut called = Set::empty();
     let mut free = Set::empty();
-    let mut k: usize = 0;
-    while k < NODES {
+    for k in 0..NODES {
         let kept = record_at(records, Node(k));
-        let call = kept.call;
-        let freed = kept.freed;
-        if call.happened() {
+        if kept.call.happened() {
             called = called.with(Node(k));
         }
-        if freed.happened() {
+        if kept.freed.happened() {
             free = free.with(Node(k));
         }
-        k += 1;
     }
-    text(rt, b", called")?;
+    print!(rt; ", called")?;
     members(rt, called)?;
-    text(rt, b", free")?;
+    print!(rt; ", free")?;
     members(rt, free)?;
-    text(rt, b"\n")
+    println!(rt)
 }
 
 // A line on a node that another called.
 fn caller(rt: &impl Print, k: usize, call: Cause) -> io::Result<()> {
     if let Why::By(c) = Why::from(call) {
-        text(rt, b"node ")?;
-        number(rt, k as u64)?;
-        text(rt, b" called by ")?;
-        number(rt, c.0 as u64)?;
-        text(rt, b"\n")?;
+        println!(rt; "node {k} called by {}", c.0)?;
     }
     Ok(())
 }
@@ -67,31 +59,27 @@ fn caller(rt: &impl Print, k: usize, call: Cause) -> io::Result<()> {
 fn callers(rt: &impl Print, records: &[u64]) -> io::Result<()>
     requires { length records.now ≡ 21 }
 {
-    let mut k: usize = 0;
-    while k < NODES {
+    for k in 0..NODES {
         let kept = record_at(records, Node(k));
-        let call = kept.call;
-        caller(rt, k, call)?;
-        k += 1;
+        caller(rt, k, kept.call)?;
     }
     Ok(())
 }
 
 // The room is just what the messages take.
-fn ordered(rt: &impl Print, label: &[u8], order: &[u8]) -> io::Result<()> {
+fn ordered(rt: &impl Print, label: &str, order: &[u8]) -> io::Result<()> {
     let mut records = [0u64; KEPT];
     let mut sent = [0u64; SENT];
     let mut room = [0u8; 512];
-    text(rt, label)?;
-    text(rt, b": a round ")?;
+    print!(rt; "{label}: a round ")?;
     full_round(rt, NODES, &ROWS, &mut records, &mut sent, 0, order)?;
     end(rt, &records)?;
     callers(rt, &records)?;
     let written = messages(&mut room, 0, &sent, SENT);
-    text(rt, &room[..written])
+    rt.write_all(&room[..written])
 }
 
 pub fn both(rt: &impl Print) -> io::Result<()> {
-    ordered(rt, b"oldest first", &OLDEST_FIRST)?;
-    ordered(rt, b"newest first", &NEWEST_FIRST)
+    ordered(rt, "oldest first", &OLDEST_FIRST)?;
+    ordered(rt, "newest first", &NEWEST_FIRST)
 }

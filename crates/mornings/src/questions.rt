@@ -4,8 +4,7 @@ use crate::graphs::put;
 use crate::lists::{judged, offered};
 use crate::mornings::second;
 use crate::parts::{about, bytes};
-use crate::say::{number, refusal, text};
-use deadlock::Written;
+use crate::say::refusal;
 use nodes::Node;
 use std::io;
 
@@ -17,17 +16,15 @@ fn written(
     node: usize,
     room: &mut [u8],
 ) -> io::Result<()> {
-    text(rt, b"room ")?;
-    number(rt, room.len() as u64)?;
+    print!(rt; "room {}", room.len())?;
     about(rt, node)?;
-    let said = deadlock::write_evidence(nodes, rows, Node(node), room);
-    match said {
-        Written::Bytes(count) => number(rt, count as u64)?,
-        Written::Refused(r) => refusal(rt, r)?,
+    match deadlock::write_evidence(nodes, rows, Node(node), room) {
+        Ok(count) => print!(rt; "{count}")?,
+        Err(r) => refusal(rt, r)?,
     }
-    text(rt, b", bytes")?;
+    print!(rt; ", bytes")?;
     bytes(rt, room, room.len())?;
-    text(rt, b"\n")
+    println!(rt)
 }
 
 // Number 9, after the graph's.

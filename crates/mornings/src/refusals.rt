@@ -1,7 +1,6 @@
 // Bad graphs of every kind, for each number of the table.
 use crate::graphs::{eight_each, one_of, put, with_row};
 use crate::parts::{answer, checked};
-use crate::say::{number, text};
 use std::io;
 
 // The largest number that can be handed in, and the last place of a set.
@@ -9,9 +8,7 @@ const ALL: u64 = 18_446_744_073_709_551_615;
 
 const LAST: u64 = 9_223_372_036_854_775_808;
 
-// How many rows are tried, and the rows: each the first of three nodes, of which the others are active.
-const TRIED: usize = 36;
-
+// The rows that are tried: each the first of three nodes, of which the others are active.
 const ROWS: [[u64; 6]; 36] = [
     // kind above 2
     [3, 0, 0, 0, 0, 0],
@@ -60,11 +57,8 @@ const ROWS: [[u64; 6]; 36] = [
 
 // A row's six numbers.
 fn spelled(rt: &impl Print, row: [u64; 6]) -> io::Result<()> {
-    let mut k: usize = 0;
-    while k < 6 {
-        text(rt, b" ")?;
-        number(rt, row[k])?;
-        k += 1;
+    for n in &row {
+        print!(rt; " {n}")?;
     }
     Ok(())
 }
@@ -73,18 +67,15 @@ fn spelled(rt: &impl Print, row: [u64; 6]) -> io::Result<()> {
 fn try_row(rt: &impl Print, row: [u64; 6]) -> io::Result<()> {
     let mut g = [0u64; 18];
     put(&mut g, 0, row);
-    text(rt, b"row")?;
+    print!(rt; "row")?;
     spelled(rt, row)?;
-    text(rt, b": ")?;
+    print!(rt; ": ")?;
     answer(rt, 3, &g)
 }
 
 pub fn rows(rt: &impl Print) -> io::Result<()> {
-    let mut k: usize = 0;
-    while k < TRIED {
-        let row = ROWS[k];
-        try_row(rt, row)?;
-        k += 1;
+    for row in &ROWS {
+        try_row(rt, *row)?;
     }
     Ok(())
 }
@@ -92,37 +83,37 @@ pub fn rows(rt: &impl Print) -> io::Result<()> {
 // Number 1.
 pub fn counts(rt: &impl Print) -> io::Result<()> {
     let none = [0u64; 0];
-    checked(rt, b"no nodes", 0, &none)?;
-    checked(rt, b"no nodes and a row", 0, &[0u64; 6])?;
-    checked(rt, b"65 nodes", 65, &[0u64; 390])?;
+    checked(rt, "no nodes", 0, &none)?;
+    checked(rt, "no nodes and a row", 0, &[0u64; 6])?;
+    checked(rt, "65 nodes", 65, &[0u64; 390])?;
     checked(
         rt,
-        b"the largest count of nodes",
+        "the largest count of nodes",
         18_446_744_073_709_551_615,
         &[0u64; 6],
     )?;
-    checked(rt, b"two nodes and no row", 2, &none)?;
-    checked(rt, b"two nodes and one row", 2, &[0u64; 6])?;
-    checked(rt, b"two nodes and three rows", 2, &[0u64; 18])?;
-    checked(rt, b"one node and five numbers", 1, &[0u64; 5])?;
-    checked(rt, b"one node and seven numbers", 1, &[0u64; 7])
+    checked(rt, "two nodes and no row", 2, &none)?;
+    checked(rt, "two nodes and one row", 2, &[0u64; 6])?;
+    checked(rt, "two nodes and three rows", 2, &[0u64; 18])?;
+    checked(rt, "one node and five numbers", 1, &[0u64; 5])?;
+    checked(rt, "one node and seven numbers", 1, &[0u64; 7])
 }
 
 // The order: rows ascending, each number in order, and number 8 after all rows.
 pub fn order(rt: &impl Print) -> io::Result<()> {
-    let many = with_row(rt, b"513 edges", eight_each(), 63, one_of(0b1_1111_1111))?;
+    let many = with_row(rt, "513 edges", eight_each(), 63, one_of(0b1_1111_1111))?;
     let none = with_row(
         rt,
-        b"and a threshold of 0 in row 60",
+        "and a threshold of 0 in row 60",
         many,
         60,
         [1, 0, 0b1, 0, 0, 0],
     )?;
-    let empty = with_row(rt, b"and no set in row 40", none, 40, [2, 0, 0, 0, 0, 0])?;
-    let kind = with_row(rt, b"and kind 3 in row 41", empty, 41, [3, 0, 0, 0, 0, 0])?;
+    let empty = with_row(rt, "and no set in row 40", none, 40, [2, 0, 0, 0, 0, 0])?;
+    let kind = with_row(rt, "and kind 3 in row 41", empty, 41, [3, 0, 0, 0, 0, 0])?;
     with_row(
         rt,
-        b"and everything wrong in row 40",
+        "and everything wrong in row 40",
         kind,
         40,
         [3, ALL, ALL, ALL, ALL, ALL],

@@ -1,53 +1,38 @@
 // A full round: opened at a node of a fresh bench, every message delivered, in the order of their numbers or in another.
-use crate::parts::wide;
-use crate::say::{number, refusal, text};
+use crate::say::refusal;
 use bench::Reply;
 use lent::{RECORDS, Step, record_numbers};
 use nodes::Round;
 use std::io;
 use step::{Answer, Verdict};
+use waits::Refusal;
 
 // The most messages that a bench holds.
 const ROOM: usize = 4_096;
 
-// The later of two verdicts.
-fn later(before: Verdict, now: Verdict) -> Verdict {
-    match now {
-        Verdict::NoVerdict => before,
-        Verdict::Deadlocked => Verdict::Deadlocked,
-        Verdict::NotDeadlocked => Verdict::NotDeadlocked,
-    }
-}
-
-fn heard(before: Verdict, answer: Answer) -> Verdict {
+// The later of two verdicts: what an answer says, if it says one.
+fn heard(before: Option<Verdict>, answer: Result<Answer, Refusal>) -> Option<Verdict> {
     match answer {
-        Answer::Refused(_) => before,
-        Answer::Old => before,
-        Answer::Stray => before,
-        Answer::Repeat => before,
-        Answer::Taken(v) => later(before, v),
-        Answer::Opened(v) => later(before, v),
+        Ok(Answer::Taken(now) | Answer::Opened(now)) => now.or(before),
+        _ => before,
     }
 }
 
-fn ended(rt: &impl Print, sent: usize, verdict: Verdict) -> io::Result<()> {
-    text(rt, b"sends ")?;
-    number(rt, sent as u64)?;
-    text(rt, b" and says ")?;
-    match verdict {
-        Verdict::NoVerdict => text(rt, b"nothing")?,
-        Verdict::Deadlocked => text(rt, b"deadlocked")?,
-        Verdict::NotDeadlocked => text(rt, b"not deadlocked")?,
-    }
-    Ok(())
+fn ended(rt: &impl Print, sent: usize, verdict: Option<Verdict>) -> io::Result<()> {
+    let said = match verdict {
+        None => "nothing",
+        Some(Verdict::Deadlocked) => "deadlocked",
+        Some(Verdict::NotDeadlocked) => "not deadlocked",
+    };
+    print!(rt; "sends {sent} and says {said}")
 }
 
 // Which message comes after k others: as the order says, and past its end message k.
 fn message(order: &[u8], k: usize) -> u64 {
-    if k < order.len() {
-        return wide(order[k]);
+    match order.get(k) {
+        Some(b) => u64::from(*b),
+        None => k as u64,
     }
-    k as u64
 }
 
 // Delivers every message of a round that was opened. An order has each once, so when as many came as were sent, all did.
@@ -60,12 +45,10 @@ fn deliver(
     opened: Reply,
     order: &[u8],
 ) -> io::Result<()> {
-    let first = opened.answer;
     let top = opened.highest;
     let mut sent = opened.sent;
-    let mut verdict = heard(Verdict::NoVerdict, first);
-    let mut k: usize = 0;
-    while k < ROOM {
+    let mut verdict = heard(None, opened.answer);
+    for k in 0..ROOM {
         if sent <= k {
             break;
         }
@@ -75,10 +58,8 @@ fn deliver(
             b: 0,
         };
         let reply = bench::step(nodes, rows, records, messages, sent, top, s);
-        let answer = reply.answer;
         sent = reply.sent;
-        verdict = heard(verdict, answer);
-        k += 1;
+        verdict = heard(verdict, reply.answer);
     }
     ended(rt, sent, verdict)
 }
@@ -99,11 +80,9 @@ pub fn full_round(
         b: 1,
     };
     let opened = bench::step(nodes, rows, records, messages, 0, Round(0), s);
-    let answer = opened.answer;
-    if let Answer::Refused(r) = answer {
-        text(rt, b"is ")?;
-        refusal(rt, r)?;
-        return Ok(());
+    if let Err(r) = opened.answer {
+        print!(rt; "is ")?;
+        return refusal(rt, r);
     }
     deliver(rt, nodes, rows, records, messages, opened, order)
 }
@@ -129,6 +108,6 @@ fn begin(
 pub fn round(rt: &impl Print, nodes: usize, rows: &[u64], node: usize) -> io::Result<()> {
     let mut records = [0u64; RECORDS];
     let mut messages = [0u64; ROOM];
-    text(rt, b", a round ")?;
+    print!(rt; ", a round ")?;
     begin(rt, nodes, rows, &mut records, &mut messages, node)
 }

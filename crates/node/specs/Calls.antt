@@ -3,7 +3,7 @@ use Rattle.std.specs.Prelude.{List, ℕ, Result, Ok, Err}
 use Rattle.records.specs.declared.messages.Message.{Message}
 use Rattle.records.specs.Messages.{letter_of}
 use Rattle.records.specs.Records.{State}
-use Rattle.waits.specs.declared.numbers.Refusal.{Refusal}
+use Rattle.waits.specs.declared.refusals.Refusal.{Refusal}
 use Rattle.waits.specs.Rows.{row_at}
 use Rattle.step.specs.Step.{Seen, Outcome, still, open_round, receive}
 use Rattle.step.specs.Views.{seen_by}

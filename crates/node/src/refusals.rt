@@ -7,7 +7,7 @@ ghost use Rattle.node.specs.Refusals.{wrong_own, strange_kept, check_own_of, che
 
 use nodes::{Node, Round, Set};
 use records::{Message, Record, cannot_open, strange_message, strange_record, strange_set};
-use waits::{ROW, Refusal, check_row, refused, row_at, strange_count};
+use waits::{ROW, Reason, Refusal, check_row, refused, row_at, strange_count};
 
 // Number 1, of one node.
 #[tactic(auto, unfolding(crate::specs::Refusals::wrong_own))]
@@ -17,12 +17,12 @@ fn wrong_own(nodes: usize, numbers: usize) -> bool
     strange_count(nodes) || numbers != ROW
 }
 
-// One line of the table: the number, if the line says so.
-fn refused_if(says: bool, number: u64) -> Result<(), Refusal>
-    ensures { result ≡ first_said (line number 0 says ∷ []) }
+// One line of the table: its refusal, if it says so.
+fn refused_if(says: bool, reason: Reason) -> Result<(), Refusal>
+    ensures { result ≡ first_said (line reason 0 says ∷ []) }
 {
     if says {
-        refused(number, Node(0))
+        refused(reason, Node(0))
     } else {
         Ok(())
     }
@@ -33,8 +33,8 @@ fn refused_if(says: bool, number: u64) -> Result<(), Refusal>
 fn check_own(nodes: usize, me: Node, row: &[u64]) -> Result<(), Refusal>
     ensures { result ≡ check_own_of nodes me.0 row.now }
 {
-    refused_if(wrong_own(nodes, row.len()), 1)?;
-    refused_if(nodes <= me.0, 9)?;
+    refused_if(wrong_own(nodes, row.len()), Reason::WrongCount)?;
+    refused_if(nodes <= me.0, Reason::NoNode)?;
     check_row(nodes, me, row_at(row, Node(0)))
 }
 
@@ -53,7 +53,7 @@ fn check_kept(nodes: usize, me: Node, row: &[u64], ins: Set, kept: Record) -> Re
     ensures { result ≡ check_kept_of nodes me.0 row.now (num ins) (state_of kept) }
 {
     check_own(nodes, me, row)?;
-    refused_if(strange_kept(nodes, kept, ins), 13)
+    refused_if(strange_kept(nodes, kept, ins), Reason::StrangeState)
 }
 
 // An opening: the same, then 10.
@@ -69,7 +69,7 @@ pub fn check_open(
     ensures { result ≡ check_open_of nodes me.0 row.now (num ins) (state_of kept) round.0 }
 {
     check_kept(nodes, me, row, ins, kept)?;
-    refused_if(cannot_open(kept.round, round), 10)
+    refused_if(cannot_open(kept.round, round), Reason::CannotOpen)
 }
 
 // A delivery: the same, then 13 for the message.
@@ -85,5 +85,5 @@ pub fn check_deliver(
     ensures { result ≡ check_deliver_of nodes me.0 row.now (num ins) (state_of kept) message }
 {
     check_kept(nodes, me, row, ins, kept)?;
-    refused_if(strange_message(nodes, message), 13)
+    refused_if(strange_message(nodes, message), Reason::StrangeState)
 }

@@ -17,7 +17,7 @@ use Rattle.lemmas.proofs.Tests.{or_intro_left, or_intro_right, true_or_false}
 use Rattle.lemmas.proofs.Stores.{sets_append, sets_out, front_taken}
 use Rattle.nodes.specs.Words.{places}
 use Rattle.waits.specs.declared.rows.Row.{Row}
-use Rattle.waits.specs.declared.numbers.Refusal.{Refusal}
+use Rattle.waits.specs.declared.refusals.Refusal.{Refusal}
 use Rattle.waits.specs.Rows.{row_size, row_numbers, flat}
 use Rattle.waits.specs.Numbers.{strange_count, wrong_count, check_of}
 use Rattle.waits.proofs.Flat.{flat_length, flat_snoc}
@@ -29,6 +29,7 @@ use Rattle.format.proofs.Open.{open_format}
 use Rattle.fields.specs.Ends.{up_to_end}
 use Rattle.fields.proofs.Finding.{lines_next, lines_none}
 use Rattle.reader.specs.Answers.{row_said, numbers, LinesSay, zeros, file_said, checked_as, graph_judged}
+use Rattle.waits.specs.declared.refusals.Reason.TheVariants.{WrongCount}
 
 -- ---- what an answer tells of a line
 told_none : (o : Maybe Row) → None ≡ row_said o → o ≡ none
@@ -139,7 +140,7 @@ module _ (file : List ℕ) {end : ℕ} (ends : end ≡ 0 + up_to_end (drop 0 fil
   under_header_lem e found rows (Ok n) s = (s.0, sym (under e) ∙ s.1, s.2, s.3)
 
 -- ---- the graph
-one_said : (n : ℕ) (rows : List ℕ) → places < n → Err (record { number = 1; row = record { 0 = 0 } }) ≡ check_of n rows
+one_said : (n : ℕ) (rows : List ℕ) → places < n → Err (record { reason = WrongCount; row = record { 0 = 0 } }) ≡ check_of n rows
 unfolding check_of wrong_count strange_count
 one_said n rows h =
     at_true _

@@ -1,14 +1,16 @@
 -- The fields of a line, as they are taken one after the other. Assumes nothing.
 use mathlib.Core.Path.{◌≡◌, refl, sym, ap, ◌∙◌}
-use mathlib.Core.Bool.{true, false}
+use mathlib.Core.Bool.{Bool, true, false}
 use mathlib.Core.Logic.{⊎_elim}
 use mathlib.Core.List.{List, [], ◌∷◌}
-use mathlib.Core.Option.{Option, none, some}
+use mathlib.Core.Option.{Option as Maybe, none, some}
 use Prim.Native.Nat.{ℕ, ◌+◌, ◌-◌, ◌≤◌, ◌<◌}
 use native.Mathlib.Omega.{arith}
 use lib.Dec.{leb, eqb}
 use lib.ListN.{length, take, drop, length-drop}
 use borrow.Author.Tests.{le-leb, lt-leb, eq-eqb, ne_eqb, leb-true, leb-false, eqb-true, eqb-false}
+use Rattle.std.specs.Prelude.{Option, Some, None}
+use Rattle.std.specs.Bool.{then_some}
 use Rattle.lemmas.proofs.Cases.{at_true, at_false}
 use Rattle.lemmas.proofs.Tests.{true_or_false}
 use Rattle.nodes.specs.declared.Set.{Set}
@@ -17,10 +19,12 @@ use Rattle.nodes.proofs.Words.{as_num}
 use Rattle.format.specs.Cut.{comma}
 use Rattle.format.specs.Fields.{bare, number_of, set_in, same, word_in, Fields, Taken, taken, next, done}
 use Rattle.format.specs.Files.{fields}
+use Rattle.fields.specs.Answers.{numbered, gathered}
 use Rattle.fields.specs.Ends.{up_to, pieces_from}
 use Rattle.fields.proofs.Finding.{up_le, pieces_start, pieces_none, pieces_next}
+use Rattle.fields.proofs.Told.{told_none, told_number, told_no_set, told_set}
 use Rattle.reader.specs.declared.places.At.{At}
-use Rattle.reader.specs.Places.{left, field_at, place_for, place_after, number_at, set_at}
+use Rattle.reader.specs.Places.{left, field_at, place_for, place_after, answered_at, number_at, set_at}
 
 -- ---- places
 module _ (line : List ℕ) where
@@ -77,7 +81,7 @@ module _ (line : List ℕ) (from : ℕ) where
     unfolding field_at
     field_after = left_here line (from + long + 1) (omega (arith, up_le comma (drop from line), length-drop from line))
 
-    field_next : (f : List ℕ → Option ℕ) → next f (left line from) ≡ taken (f (field_at line from).value) others
+    field_next : (f : List ℕ → Maybe ℕ) → next f (left line from) ≡ taken (f (field_at line from).value) others
     unfolding next field_at
     field_next f =
         ap (next f)
@@ -87,7 +91,7 @@ module _ (line : List ℕ) (from : ℕ) where
         ∙ ap (λ (n : ℕ). take n (drop from line) ∷ pieces_from comma line (from + long + 1)) (let q : from + long - from ≡ long = omega arith in q)))
 
 -- ---- what is taken
-module _ (f : List ℕ → Option ℕ) (line : List ℕ) (from : ℕ) where
+module _ (f : List ℕ → Maybe ℕ) (line : List ℕ) (from : ℕ) where
   pub taken_past : length line < from → next f (left line from) ≡ taken none []
   unfolding next
   taken_past h =
@@ -97,8 +101,8 @@ module _ (f : List ℕ → Option ℕ) (line : List ℕ) (from : ℕ) where
       (λ (t : leb from (length line + 1) ≡ false). ap (next f) (left_far line from (leb-false from (length line + 1) t)))
       (true_or_false (leb from (length line + 1)))
 
-  pub taken_here : from ≤ length line → {t : List ℕ} → t ≡ (field_at line from).value → {o : Option ℕ} → f t ≡ o → next f (left line from) ≡ taken o (others line from)
-  taken_here h g e = field_next line from h f ∙ ap (λ (o : Option ℕ). taken o (others line from)) (ap f (sym g) ∙ e)
+  pub taken_here : from ≤ length line → {t : List ℕ} → t ≡ (field_at line from).value → {o : Maybe ℕ} → f t ≡ o → next f (left line from) ≡ taken o (others line from)
+  taken_here h g e = field_next line from h f ∙ ap (λ (o : Maybe ℕ). taken o (others line from)) (ap f (sym g) ∙ e)
 
   -- the place behind it
   pub place_wrong : next f (left line from) ≡ taken none [] → length line + 2 ≡ place_after f line from
@@ -121,7 +125,7 @@ module _ (f : List ℕ → Option ℕ) (line : List ℕ) (from : ℕ) where
       lost : next f (left line from) ≡ taken none [] → left line (place_after f line from) ≡ (next f (left line from)).rest
       lost e = ap (left line) (sym (place_wrong e)) ∙ left_far line (length line + 2) (omega arith) ∙ ap (λ (t : Taken). t.rest) (sym e)
 
-      by : (o : Option ℕ) {ws : List (List ℕ)} → left line (field_at line from).next ≡ some ws → next f (left line from) ≡ taken o ws
+      by : (o : Maybe ℕ) {ws : List (List ℕ)} → left line (field_at line from).next ≡ some ws → next f (left line from) ≡ taken o ws
           → left line (place_after f line from) ≡ (next f (left line from)).rest
       by none a e = lost e
       by (some v) a e = ap (left line) (sym (place_right e refl)) ∙ a ∙ ap (λ (t : Taken). t.rest) (sym e)
@@ -160,9 +164,44 @@ module _ (line : List ℕ) (from : ℕ) where
   unfolding set_at
   set_right {s} e g = λ i. record { value = set_is s (ap (λ (t : Taken). t.value) (sym e)) i; next = place_right set_in line from e g i }
 
+-- ---- as they are read: past the line, or where the field stands
+module _ (line : List ℕ) (from : ℕ) where
+  pub number_by : (r : At ℕ) → (length line < from → r ≡ answered_at line from 0 None) → (from ≤ length line → (o : Option ℕ) × (o ≡ numbered (number_of (field_at line from).value)) × (r ≡ answered_at line from 0 o)) → r ≡ number_at line from
+  number_by r past here =
+      ⊎_elim
+      (λ (t : leb from (length line) ≡ true). let h = leb-true from (length line) t in let q = here h in go h q.0 q.1 q.2)
+      (λ (t : leb from (length line) ≡ false). let h = leb-false from (length line) t in past h ∙ number_wrong line from (taken_past number_of line from h))
+      (true_or_false (leb from (length line)))
+    where
+      go : from ≤ length line → (o : Option ℕ) → o ≡ numbered (number_of (field_at line from).value) → r ≡ answered_at line from 0 o → r ≡ number_at line from
+      go h None e q = q ∙ number_wrong line from (taken_here number_of line from h refl (told_none _ e))
+      go h (Some v) e q = q ∙ number_right line from (taken_here number_of line from h refl (told_number _ e)) refl
+
+  pub set_by : (r : At Set) {zero : Set} → num zero ≡ 0 → (length line < from → r ≡ answered_at line from zero None) → (from ≤ length line → (o : Option Set) × (o ≡ gathered (set_in (field_at line from).value)) × (r ≡ answered_at line from zero o)) → r ≡ set_at line from
+  set_by r {zero} z past here =
+      ⊎_elim
+      (λ (t : leb from (length line) ≡ true). let h = leb-true from (length line) t in let q = here h in go h q.0 q.1 q.2)
+      (λ (t : leb from (length line) ≡ false). let h = leb-false from (length line) t in past h ∙ set_wrong line from z (taken_past set_in line from h))
+      (true_or_false (leb from (length line)))
+    where
+      go : from ≤ length line → (o : Option Set) → o ≡ gathered (set_in (field_at line from).value) → r ≡ answered_at line from zero o → r ≡ set_at line from
+      go h None e q = q ∙ set_wrong line from z (taken_here set_in line from h refl (told_no_set _ e))
+      go h (Some s) e q = q ∙ set_right line from (taken_here set_in line from h refl (told_set _ e)) refl
+
+  pub word_by : (word : List ℕ) (r : At Unit) → (length line < from → r ≡ answered_at line from tt None) → (from ≤ length line → (o : Option Unit) × (o ≡ then_some (same (field_at line from).value word) tt) × (r ≡ answered_at line from tt o)) → r.next ≡ place_after (word_in word) line from
+  word_by word r past here =
+      ⊎_elim
+      (λ (t : leb from (length line) ≡ true). let h = leb-true from (length line) t in let q = here h in go h (same (field_at line from).value word) refl (q.2 ∙ ap (answered_at line from tt) q.1))
+      (λ (t : leb from (length line) ≡ false). let h = leb-false from (length line) t in ap (λ (x : At Unit). x.next) (past h) ∙ place_wrong (word_in word) line from (taken_past (word_in word) line from h))
+      (true_or_false (leb from (length line)))
+    where
+      go : from ≤ length line → (b : Bool) → same (field_at line from).value word ≡ b → r ≡ answered_at line from tt (then_some b tt) → r.next ≡ place_after (word_in word) line from
+      go h true e q = ap (λ (x : At Unit). x.next) q ∙ place_right (word_in word) line from (taken_here (word_in word) line from h refl (word_is word _ e)) refl
+      go h false e q = ap (λ (x : At Unit). x.next) q ∙ place_wrong (word_in word) line from (taken_here (word_in word) line from h refl (word_not word _ e))
+
 -- ---- one after the other: if the fields are known by another name
 module _ (line : List ℕ) (from : ℕ) {fs : Fields} (known : left line from ≡ fs) where
-  pub rest_then : (f : List ℕ → Option ℕ) {after : ℕ} → after ≡ place_after f line from → left line after ≡ (next f fs).rest
+  pub rest_then : (f : List ℕ → Maybe ℕ) {after : ℕ} → after ≡ place_after f line from → left line after ≡ (next f fs).rest
   rest_then f e = ap (left line) e ∙ left_after f line from ∙ ap (λ (m : Fields). (next f m).rest) known
 
   module _ {n : At ℕ} (e : n ≡ number_at line from) where

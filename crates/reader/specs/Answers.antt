@@ -4,9 +4,9 @@ use Rattle.std.proofs.Math.Option.{Option as Maybe, none, some}
 use Rattle.std.proofs.lemmas.List.Edits.{sets}
 use Rattle.nodes.specs.Words.{places}
 use Rattle.waits.specs.declared.rows.Row.{Row}
-use Rattle.waits.specs.declared.numbers.Refusal.{Refusal}
+use Rattle.waits.specs.declared.refusals.Refusal.{Refusal}
 use Rattle.waits.specs.Rows.{row_size, flat}
-use Rattle.waits.specs.Numbers.{check_of}
+use Rattle.waits.specs.Numbers.{reason_number, check_of}
 use Rattle.format.specs.Files.{Meant, Said}
 use Rattle.format.specs.Files.Meant.{Broken, Rows}
 use Rattle.format.specs.Files.Said.{Line, Refused, Graph}
@@ -14,6 +14,7 @@ use Rattle.reader.specs.declared.files.Wrong.{Wrong}
 use Rattle.reader.specs.declared.files.Wrong.TheVariants.{Line as Wrong-as-Line, Refused as Wrong-as-Refused}
 use Rattle.reader.specs.declared.files.File.{File}
 use Rattle.reader.specs.declared.files.Told.{Told}
+use Rattle.waits.specs.declared.refusals.Reason.TheVariants.{WrongCount}
 
 -- a line
 unfoldable pub row_said : Maybe Row → Option Row
@@ -49,11 +50,11 @@ checked_as n stored (Ok u) = Ok (record { nodes = n; rows = stored })
 unfoldable pub graph_judged : ℕ → List ℕ → Result File Wrong
 graph_judged n stored =
     cond (ltb places n)
-    (no_graph (Wrong-as-Refused (record { number = 1; row = record { 0 = 0 } })))
+    (no_graph (Wrong-as-Refused (record { reason = WrongCount; row = record { 0 = 0 } })))
     (checked_as n stored (check_of n (take (n * row_size) stored)))
 
 -- the number by which each answer is known, with its line or row: 20 is the line's, a refused graph has its own, and one that isn't refused has none
 abbrev pub told_as : Result Unit Wrong → Told
 told_as (Ok u) = record { number = 0; place = 0 }
 told_as (Err (Wrong-as-Line line)) = record { number = 20; place = line }
-told_as (Err (Wrong-as-Refused r)) = record { number = r.number; place = r.row.0 }
+told_as (Err (Wrong-as-Refused r)) = record { number = reason_number r.reason; place = r.row.0 }

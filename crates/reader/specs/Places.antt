@@ -1,6 +1,6 @@
 -- A place in a line stands for the fields that are left from there on. Assumes nothing.
-use Rattle.std.specs.Prelude.{cond, List, ℕ, ◌+◌, leb, length, take, drop}
-use Rattle.std.proofs.Math.Option.{Option, none, some}
+use Rattle.std.specs.Prelude.{cond, List, ℕ, ◌+◌, leb, length, take, drop, Option, Some, None}
+use Rattle.std.proofs.Math.Option.{Option as Maybe, none, some}
 use Rattle.nodes.specs.declared.Set.{Set}
 use Rattle.nodes.specs.Words.{as_set}
 use Rattle.format.specs.Cut.{comma}
@@ -24,8 +24,13 @@ place_for line from none = length line + 2
 place_for line from (some others) = (field_at line from).next
 
 -- the place behind the field that `f` reads
-unfoldable pub place_after : (List ℕ → Option ℕ) → List ℕ → ℕ → ℕ
+unfoldable pub place_after : (List ℕ → Maybe ℕ) → List ℕ → ℕ → ℕ
 place_after f line from = place_for line from (next f (left line from)).rest
+
+-- what is answered of a field once it was read: the value and the place behind it, or else zero and two past the end
+abbrev pub answered_at : {T : Type 0} → List ℕ → ℕ → (zero : T) → Option T → At T
+answered_at line from zero None = record { value = zero; next = length line + 2 }
+answered_at line from zero (Some v) = record { value = v; next = (field_at line from).next }
 
 -- the number or the set that the field at a place is, and the place behind it
 unfoldable pub number_at : List ℕ → ℕ → At ℕ

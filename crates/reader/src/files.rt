@@ -10,7 +10,7 @@ ghost use Rattle.reader.specs.Answers.{numbers, LinesSay, graph_judged, file_sai
 use crate::lines::{header, row};
 use fields::line_end;
 use nodes::{Node, PLACES};
-use waits::{ROW, Refusal, Row, check, put_row};
+use waits::{ROW, Reason, Refusal, Row, check, put_row};
 
 // The numbers of as many rows as a graph can have.
 pub const NUMBERS: usize = 384;
@@ -66,9 +66,7 @@ fn read_rows(file: &[u8], from: usize, rows: &mut [u64]) -> Result<usize, usize>
     // From one line to the next the place jumps, so no range has all of them.
     while at < file.len() {
         let end = line_end(file, at);
-        let Some(r) = row(&file[at..end], k) else {
-            return Err(k + 2);
-        };
+        let r = row(&file[at..end], k).ok_or(k + 2)?;
         keep(rows, k, r);
         k += 1;
         at = end + 2;
@@ -94,7 +92,7 @@ fn judge(nodes: usize, rows: [u64; NUMBERS]) -> Result<File, Wrong>
 {
     if PLACES < nodes {
         return Err(Wrong::Refused(Refusal {
-            number: 1,
+            reason: Reason::WrongCount,
             row: Node(0),
         }));
     }
@@ -122,7 +120,7 @@ pub fn told_as(wrong: Wrong) -> Told
             place: line as u64,
         },
         Wrong::Refused(r) => Told {
-            number: r.number,
+            number: r.reason.number(),
             place: r.row.0 as u64,
         },
     }

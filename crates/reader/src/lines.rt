@@ -23,7 +23,6 @@ pub fn header(line: &[u8]) -> bool
 pub fn row(line: &[u8], k: usize) -> Option<Row>
     ensures { result ≡ row_said (row_of k line.now) }
 {
-    let behind = line.len() + 1;
     let node = number_at(line, 0);
     let kind = number_at(line, node.next);
     let threshold = number_at(line, kind.next);
@@ -31,10 +30,7 @@ pub fn row(line: &[u8], k: usize) -> Option<Row>
     let second = set_at(line, first.next);
     let third = set_at(line, second.next);
     let fourth = set_at(line, third.next);
-    if fourth.next != behind {
-        return None;
-    }
-    if node.value != k as u64 {
+    if fourth.next != line.len() + 1 || node.value != k as u64 {
         return None;
     }
     Some(Row {

@@ -1,8 +1,9 @@
 // The fields of a line, one after the other. A place in a line is where a field starts; behind the last field it is one past the
 // line's end, and two past it once something was wrong, so that whoever reads on needs no test.
-ghost use Rattle.std.specs.Prelude.{◌≡◌, ◌+◌, ◌<◌, ◌≤◌, length, MatchOption};
+ghost use Rattle.std.specs.Prelude.{◌≡◌, ◌<◌, ◌≤◌, length, Option, None};
+ghost use Rattle.std.specs.Fn.{FnOnceReturnsAt};
 ghost use Rattle.format.specs.Fields.{word_in};
-ghost use Rattle.reader.specs.Places.{field_at, place_after, number_at, set_at};
+ghost use Rattle.reader.specs.Places.{field_at, place_after, answered_at, number_at, set_at};
 
 use fields::{bare, find, number_in, same, set_in};
 use nodes::Set;
@@ -14,71 +15,51 @@ pub struct At<T> {
     pub next: usize,
 }
 
-// What is answered once something was wrong.
-fn wrong<T>(line: &[u8], value: T) -> At<T>
-    ensures { result ≡ record { value = value; next = length line.now + 2 } }
+// What the next field says, as `read` reads it without its quotes; zero if there is none, or if it can't be read.
+fn read_at<T: Copy, F: FnOnce(&[u8]) -> Option<T>>(
+    line: &[u8],
+    from: usize,
+    zero: T,
+    read: F,
+) -> At<T>
+    requires { F.IsAlwaysCallable read }
+    ensures past { length line.now < from → result ≡ answered_at line.now from zero None }
+    ensures here { from ≤ length line.now → (o : Option T) × FnOnceReturnsAt F.FnOnce read (field_at line.now from).value o × (result ≡ answered_at line.now from zero o) }
 {
-    At {
-        value,
+    let wrong = At {
+        value: zero,
         next: line.len() + 2,
-    }
-}
-
-// The next field without its quotes, if the line has one more.
-fn field_at(line: &[u8], from: usize) -> Option<At<&[u8]>>
-    ensures { MatchOption result (length line.now < from) (λ f. (from ≤ length line.now) × (f.value.now ≡ (field_at line.now from).value) × (f.next ≡ (field_at line.now from).next)) }
-{
+    };
     if line.len() < from {
-        return None;
+        return wrong;
     }
     let end = find(line, from, b',');
-    Some(At {
-        value: bare(&line[from..end]),
-        next: end + 1,
-    })
+    match read(bare(&line[from..end])) {
+        Some(value) => At {
+            value,
+            next: end + 1,
+        },
+        None => wrong,
+    }
 }
 
 // The number that is the next field.
 pub fn number_at(line: &[u8], from: usize) -> At<u64>
     ensures { result ≡ number_at line.now from }
 {
-    let Some(field) = field_at(line, from) else {
-        return wrong(line, 0);
-    };
-    let Some(value) = number_in(field.value) else {
-        return wrong(line, 0);
-    };
-    At {
-        value,
-        next: field.next,
-    }
+    read_at(line, from, 0, |w| number_in(w))
 }
 
 // The set that is the next field.
 pub fn set_at(line: &[u8], from: usize) -> At<Set>
     ensures { result ≡ set_at line.now from }
 {
-    let Some(field) = field_at(line, from) else {
-        return wrong(line, Set::empty());
-    };
-    let Some(value) = set_in(field.value) else {
-        return wrong(line, Set::empty());
-    };
-    At {
-        value,
-        next: field.next,
-    }
+    read_at(line, from, Set::empty(), |w| set_in(w))
 }
 
 // Passes a word that must be the next field.
 pub fn word_at(line: &[u8], from: usize, word: &[u8]) -> usize
     ensures { result ≡ place_after (word_in word.now) line.now from }
 {
-    let Some(field) = field_at(line, from) else {
-        return line.len() + 2;
-    };
-    if same(field.value, word) {
-        return field.next;
-    }
-    line.len() + 2
+    read_at(line, from, (), |w| same(w, word).then_some(())).next
 }

@@ -15,6 +15,7 @@ use Rattle.faults.specs.Faults.{line_fault, mark, header_fault, field_flaw, fiel
 use Rattle.report.specs.Report.{longest, input_of}
 use Rattle.report.specs.Report.Input.{Says}
 use Rattle.reasons.specs.Reasons.{longest_reason, flaw_words, fault_words, line_reason, number_words, place_words, graph_reason, reason_for, reason_of}
+use Rattle.waits.specs.declared.refusals.Reason.TheVariants.{WrongThreshold, ManyEdges}
 
 -- the definitions that are computed with
 unfoldable open_reasons : Unit {0}
@@ -146,11 +147,11 @@ nothing_to_wait_for : reason_of (under "0,2,0,,,,\r\n") ≡ word "row 0: kind 2 
 unfolding open_reasons
 nothing_to_wait_for = refl
 
-many_edges_lem : graph_reason (record { number = 8; row = record { 0 = 0 } }) ≡ word "there are more than 512 edges\n"
+many_edges_lem : graph_reason (record { reason = ManyEdges; row = record { 0 = 0 } }) ≡ word "there are more than 512 edges\n"
 unfolding open_reasons
 many_edges_lem = refl
 
 -- the longest reason is as long as `longest_reason` says
-longest_reached : length (graph_reason (record { number = 5; row = record { 0 = places - 1 } })) ≡ longest_reason
+longest_reached : length (graph_reason (record { reason = WrongThreshold; row = record { 0 = places - 1 } })) ≡ longest_reason
 unfolding open_reasons
 longest_reached = refl

@@ -12,7 +12,7 @@ use borrow.Author.Tests.{ltb-false}
 use Rattle.lemmas.proofs.Cases.{both_branches}
 use Rattle.lemmas.proofs.Tests.{true_or_false}
 use Rattle.nodes.specs.Words.{places}
-use Rattle.waits.specs.declared.numbers.Refusal.{Refusal}
+use Rattle.waits.specs.declared.refusals.Refusal.{Refusal}
 use Rattle.text.specs.Words.{word, decimal}
 use Rattle.text.specs.Text.{text, write}
 use Rattle.text.proofs.Writing.{write_fits}
@@ -28,6 +28,7 @@ use Rattle.faults.specs.Faults.{fault_of}
 use Rattle.report.specs.Report.{longest, input_of}
 use Rattle.report.proofs.Small.{SmallSaid, read_small}
 use Rattle.report.specs.Report.Input.{TooLong, Says}
+use Rattle.waits.specs.Numbers.{reason_number}
 use Rattle.reasons.specs.Reasons.{longest_reason, column_name, flaw_words, of_line, fault_words, line_reason, words_in, number_table, number_words, place_words, graph_reason, reason_for, reason_of}
 use Rattle.reasons.proofs.Placed.{Placed, read_placed}
 
@@ -115,9 +116,9 @@ place_length number row h =
 graph_length : (r : Refusal) → r.row.0 < places → AtMost longest_reason (graph_reason r)
 unfolding graph_reason word
 graph_length r h =
-    let p : List ℕ = place_words r.number r.row.0 in
-    let l = joined (p ++ number_words r.number) (word "\n") 87 1
-    (joined p (number_words r.number) 8 79 (place_length r.number r.row.0 h) (number_length r.number))
+    let p : List ℕ = place_words (reason_number r.reason) r.row.0 in
+    let l = joined (p ++ number_words (reason_number r.reason)) (word "\n") 87 1
+    (joined p (number_words (reason_number r.reason)) 8 79 (place_length (reason_number r.reason) r.row.0 h) (number_length (reason_number r.reason)))
     (omega arith) in
     omega arith
 

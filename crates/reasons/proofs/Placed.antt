@@ -7,7 +7,7 @@ use native.Mathlib.Omega.{arith}
 use lib.ListN.{length}
 use Rattle.std.specs.Prelude.{Result, Ok, Err}
 use Rattle.nodes.specs.Words.{places}
-use Rattle.waits.specs.declared.numbers.Refusal.{Refusal}
+use Rattle.waits.specs.declared.refusals.Refusal.{Refusal}
 use Rattle.waits.specs.Rows.{flat}
 use Rattle.waits.specs.Numbers.{Line, line, wrong_count, many_edges, rows_lines, first_said, check_of}
 use Rattle.waits.proofs.Cases.{right_count}
@@ -15,6 +15,7 @@ use Rattle.waits.proofs.Table.{refused_not_accepted}
 use Rattle.format.specs.Files.{Meant, meant_by, Said, judged, said_of, read_of}
 use Rattle.format.specs.Files.Meant.{Broken, Rows}
 use Rattle.format.specs.Files.Said.{Line as Said-as-Line, Refused, Graph}
+use Rattle.waits.specs.declared.refusals.Reason.TheVariants.{WrongCount, ManyEdges}
 
 -- each line of the table gives such a row
 abbrev AllPlaced : List Line → Type 0
@@ -40,10 +41,10 @@ unfolding check_of
 check_placed n rows r e = go (wrong_count n (length rows)) refl e
   where
     go : (b : Bool) → wrong_count n (length rows) ≡ b
-        → cond b (Err (line 1 0 true).gives) (first_said (rows_lines n rows 0 n ++ line 8 0 (many_edges n rows) ∷ [])) ≡ Err r → r.row.0 < places
-    go true w e = let same : (line 1 0 true).gives ≡ r = cc in omega (arith, ap (λ (x : Refusal). x.row.0) same)
+        → cond b (Err (line WrongCount 0 true).gives) (first_said (rows_lines n rows 0 n ++ line ManyEdges 0 (many_edges n rows) ∷ [])) ≡ Err r → r.row.0 < places
+    go true w e = let same : (line WrongCount 0 true).gives ≡ r = cc in omega (arith, ap (λ (x : Refusal). x.row.0) same)
     go false w e =
-        let last : List Line = line 8 0 (many_edges n rows) ∷ [] in
+        let last : List Line = line ManyEdges 0 (many_edges n rows) ∷ [] in
         said_placed (rows_lines n rows 0 n ++ last) r (rows_placed n rows last 0 n (omega (arith, (right_count n (length rows) w).0)) (omega arith, tt)) e
 
 -- ---- what a file says

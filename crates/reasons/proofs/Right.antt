@@ -11,7 +11,7 @@ use borrow.Author.Tests.{le-ltb}
 use Rattle.lemmas.proofs.Cases.{at_false}
 use Rattle.std.specs.Prelude.{Result, Ok, Err}
 use Rattle.waits.specs.declared.rows.Row.{Row}
-use Rattle.waits.specs.declared.numbers.Refusal.{Refusal}
+use Rattle.waits.specs.declared.refusals.Refusal.{Refusal}
 use Rattle.waits.specs.Rows.{flat}
 use Rattle.waits.specs.Numbers.{check_of}
 use Rattle.format.specs.Cut.{lines_of}
@@ -23,6 +23,7 @@ use Rattle.format.specs.Files.Said.{Line, Refused, Graph}
 use Rattle.faults.specs.declared.Fault.TheVariants.{NotNext}
 use Rattle.faults.specs.Faults.{fault_of}
 use Rattle.faults.proofs.Rows.{faultless_row}
+use Rattle.waits.specs.declared.refusals.Reason.TheVariants.{WrongCount}
 
 -- ---- the line is no row
 abbrev RowBroken : ℕ → List (List ℕ) → Meant → Type 0
@@ -85,7 +86,7 @@ module _ (bytes : List ℕ) (line : ℕ) (refused : read_of bytes ≡ Line line)
   abbrev text : List ℕ
   text = get_or (lines_of bytes) (line - 1) []
 
-  -- line 1 isn't the header
+  -- line WrongCount isn't the header
   pub is_no_header : line < 2 → is_header text ≡ false
   is_no_header = (subst (SaidBroken (lines_of bytes)) refused (read_broken bytes)).0
 

@@ -2,7 +2,8 @@
 use Rattle.std.specs.Prelude.{cond, ◌&&◌, List, [], ◌∷◌, ◌++◌, ℕ, ◌-◌, leb, eqb, get_or}
 use Prim.Native.String.{String}
 use Rattle.nodes.specs.Words.{places}
-use Rattle.waits.specs.declared.numbers.Refusal.{Refusal}
+use Rattle.waits.specs.declared.refusals.Refusal.{Refusal}
+use Rattle.waits.specs.Numbers.{reason_number}
 use Rattle.text.specs.Words.{word, decimal}
 use Rattle.format.specs.Files.{headings}
 use Rattle.format.specs.Files.Said.{Line, Refused, Graph}
@@ -84,7 +85,9 @@ unfoldable pub place_words : (number row : ℕ) → List ℕ
 place_words number row = cond (leb 2 number && leb number 7) (word "row " ++ decimal row ++ word ": ") []
 
 unfoldable pub graph_reason : Refusal → List ℕ
-graph_reason r = place_words r.number r.row.0 ++ number_words r.number ++ word "\n"
+graph_reason r =
+    let number = reason_number r.reason in
+    place_words number r.row.0 ++ number_words number ++ word "\n"
 
 -- ---- a file
 

@@ -36,8 +36,8 @@ fn line_reason(out: &mut Text, file: &[u8], line: usize)
 fn graph_reason(out: &mut Text, r: Refusal)
     ensures { Wrote out.old out.new (graph_reason r) }
 {
-    place_words(out, r.number, r.row.0 as u64);
-    out.bytes(number_words(r.number));
+    place_words(out, r);
+    out.bytes(number_words(r.reason));
     out.put(b'\n');
 }
 

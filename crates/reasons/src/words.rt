@@ -1,11 +1,13 @@
 // The words for what is wrong with a line or with a graph, written into lent bytes.
 ghost use Rattle.std.specs.Prelude.{◌≡◌};
+ghost use Rattle.waits.specs.Numbers.{reason_number};
 ghost use Rattle.text.specs.Text.{Wrote};
 ghost use Rattle.reasons.specs.Reasons.{column_name, flaw_words, of_line, not_next_words, fault_words, number_words, place_words};
 
 use faults::{Fault, Flaw};
 use nodes::PLACES;
 use text::Text;
+use waits::{Reason, Refusal};
 
 // A column's name.
 #[tactic(auto, unfolding(text::specs::Words::word))]
@@ -97,31 +99,32 @@ pub fn fault_words(out: &mut Text, line: usize, f: Fault)
     }
 }
 
-// What a graph's number means. A graph is refused with 1 to 8, so the last arm is 8.
+// What a graph's refusal means. A graph is refused with 1 to 8, so the last arm is 8.
 #[tactic(auto, unfolding(crate::specs::Reasons::number_words, text::specs::Words::word))]
-pub fn number_words(number: u64) -> &'static [u8]
-    ensures { result.now ≡ number_words number }
+pub fn number_words(reason: Reason) -> &'static [u8]
+    ensures { result.now ≡ number_words (reason_number reason) }
 {
-    match number {
-        1 => b"there is no node, or there are more than 64",
-        2 => b"the kind isn't 0, 1 or 2",
-        3 => b"a set names something that is no node",
-        4 => b"the node waits on itself",
-        5 => b"the threshold isn't 1 to the size of set1 at kind 1, or isn't 0 at another kind",
-        6 => b"there is a set where the kind has none: any at kind 0, any but set1 at kind 1",
-        7 => b"kind 2 has no set, or one of its sets lies inside another",
+    match reason {
+        Reason::WrongCount => b"there is no node, or there are more than 64",
+        Reason::StrangeKind => b"the kind isn't 0, 1 or 2",
+        Reason::StrangeMember => b"a set names something that is no node",
+        Reason::WaitsOnItself => b"the node waits on itself",
+        Reason::WrongThreshold => b"the threshold isn't 1 to the size of set1 at kind 1, or isn't 0 at another kind",
+        Reason::ExtraSet => b"there is a set where the kind has none: any at kind 0, any but set1 at kind 1",
+        Reason::BadSets => b"kind 2 has no set, or one of its sets lies inside another",
         _ => b"there are more than 512 edges",
     }
 }
 
-// The row of a number that is of one.
-pub fn place_words(out: &mut Text, number: u64, row: u64)
-    ensures { Wrote out.old out.new (place_words number row) }
+// The row of a refusal that is of one.
+pub fn place_words(out: &mut Text, r: Refusal)
+    ensures { Wrote out.old out.new (place_words (reason_number r.reason) r.row.0) }
 {
+    let number = r.reason.number();
     if number < 2 || 7 < number {
         return;
     }
     out.bytes(b"row ");
-    out.number(row);
+    out.number(r.row.0 as u64);
     out.bytes(b": ");
 }

@@ -2,33 +2,28 @@
 // no script, if it is none.
 #![tactic(auto)]
 
+ghost use Rattle.std.specs.Prelude.{◌≤◌, length};
+
 use snags::{snag_room, snags};
-use std::io::{Stderr, Stdout};
-use streams::{Input, fail, read_all, say, write_all};
+use streams::answer_input;
 use transcript::{script_room, text_room, transcript};
 
-fn explain(errors: &mut Stderr, script: &[u8]) {
-    let mut words = snag_room();
-    let said = snags(script, &mut words);
-    say(errors, b"replay: ", &words[..said]);
+fn explain(script: &[u8], _end: usize, words: &mut [u8]) -> usize
+    ensures { result ≤ length words.new }
+{
+    snags(script, words)
 }
 
-fn answer(output: &mut Stdout, errors: &mut Stderr, script: &[u8]) {
-    let mut text = text_room();
-    let end = transcript(script, &mut text);
-    if let Err(why) = write_all(output, &text[..end]) {
-        fail(errors, b"replay: the answer can't be written", why);
-        return;
-    }
-    explain(errors, script);
-}
-
-#[tactic(auto, unfolding(streams::specs::Streams::Within))]
 fn main(rt: HostRuntime) {
-    let mut errors = rt.stderr();
-    let mut script = script_room();
-    match read_all(&mut rt.stdin(), &mut script) {
-        Input::Failed(why) => fail(&mut errors, b"replay: standard input can't be read", why),
-        Input::Bytes(length) => answer(&mut rt.stdout(), &mut errors, &script[..length]),
-    }
+    answer_input(
+        &mut rt.stdin(),
+        &mut rt.stdout(),
+        &mut rt.stderr(),
+        b"replay: ",
+        &mut script_room(),
+        &mut text_room(),
+        &mut snag_room(),
+        transcript,
+        explain,
+    );
 }

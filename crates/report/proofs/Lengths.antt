@@ -9,6 +9,7 @@ use native.Mathlib.Omega.{arith}
 use lib.Dec.{ltb}
 use lib.ListN.{length, drop, length-append}
 use borrow.Author.Tests.{ltb-false}
+use Rattle.waits.specs.Numbers.{reason_number}
 use Rattle.lemmas.specs.Lists.{Ascending}
 use Rattle.nodes.specs.Sets.{set_of}
 use Rattle.nodes.specs.Words.{places}
@@ -56,7 +57,7 @@ too_long t e = omega (arith, ap length e, refused_length 21 0 (omega arith) (ome
 said_short : (s : Said) (t : List ℕ) → SmallSaid s → Answers (Says s) t → length t ≤ longest_answer
 unfolding Answers
 said_short (Line k) t h e = omega (arith, ap length e, refused_length 20 k (omega arith) h)
-said_short (Refused r) t h e = omega (arith, ap length e, refused_length r.number r.row.0 h.0 h.1)
+said_short (Refused r) t h e = omega (arith, ap length e, refused_length (reason_number r.reason) r.row.0 h.0 h.1)
 said_short (Graph n rows) t h (l, a, e) =
     let below : (k : ℕ) → Memᴰ k l → k < places = λ k m. let i = ((a.members k).0 m).0 in omega (arith, h) in
     omega (arith, ap length e, lines_length l (λ k m. let i = below k m in omega arith), ascending_few l a.ascends below)

@@ -14,7 +14,7 @@ use Rattle.nodes.specs.declared.Set.{Set}
 use Rattle.nodes.specs.Sets.{In, members}
 use Rattle.nodes.specs.Words.{places, num}
 use Rattle.nodes.proofs.Members.{members_in, members_ascending}
-use Rattle.waits.specs.declared.numbers.Refusal.{Refusal}
+use Rattle.waits.specs.declared.refusals.Refusal.{Refusal}
 use Rattle.waits.specs.Deadlocked.{Deadlocked}
 use Rattle.waits.specs.Rows.{row_size, flat, waits_of, Shaped}
 use Rattle.waits.specs.Numbers.{check_of}

@@ -9,9 +9,9 @@ use Rattle.lemmas.proofs.Cases.{both_branches}
 use Rattle.nodes.specs.Words.{places}
 use Rattle.std.specs.Prelude.{Result, Ok, Err}
 use Rattle.waits.specs.declared.rows.Row.{Row}
-use Rattle.waits.specs.declared.numbers.Refusal.{Refusal}
+use Rattle.waits.specs.declared.refusals.Refusal.{Refusal}
 use Rattle.waits.specs.Rows.{flat}
-use Rattle.waits.specs.Numbers.{check_of}
+use Rattle.waits.specs.Numbers.{reason_number, check_of}
 use Rattle.waits.proofs.Table.{accepted_shaped}
 use Rattle.waits.proofs.Small.{check_small}
 use Rattle.format.specs.Cut.{line_end, onto, lines_of}
@@ -55,7 +55,7 @@ under_within m (l ∷ ls) h = both_branches (Within m) (is_header l) {x = rows_f
 -- ---- what a file says
 abbrev pub SmallSaid : Said → Type 0
 SmallSaid (Line k) = k < 100000
-SmallSaid (Refused r) = (r.number < 100000) × (r.row.0 < 100000)
+SmallSaid (Refused r) = (reason_number r.reason < 100000) × (r.row.0 < 100000)
 SmallSaid (Graph n rows) = n ≤ places
 
 judged_small : (n : ℕ) (rows : List ℕ) (c : Result Unit Refusal) → check_of n rows ≡ c → SmallSaid (judged n rows c)

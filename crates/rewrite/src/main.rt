@@ -2,35 +2,30 @@
 // refused to standard error, in plain words.
 #![tactic(auto)]
 
+ghost use Rattle.std.specs.Prelude.{◌≤◌, length};
+
 use reasons::{reasons, words_room};
 use report::file_room;
 use rewritten::rewritten;
-use std::io::{Stderr, Stdout};
-use streams::{Input, fail, read_all, say, write_all};
+use streams::answer_input;
 use writer::file_room as text_room;
 
-fn explain(errors: &mut Stderr, file: &[u8]) {
-    let mut words = words_room();
-    let said = reasons(file, &mut words);
-    say(errors, b"rewrite: ", &words[..said]);
+fn explain(file: &[u8], _end: usize, words: &mut [u8]) -> usize
+    ensures { result ≤ length words.new }
+{
+    reasons(file, words)
 }
 
-fn answer(output: &mut Stdout, errors: &mut Stderr, file: &[u8]) {
-    let mut text = text_room();
-    let end = rewritten(file, &mut text);
-    if let Err(why) = write_all(output, &text[..end]) {
-        fail(errors, b"rewrite: the answer can't be written", why);
-        return;
-    }
-    explain(errors, file);
-}
-
-#[tactic(auto, unfolding(streams::specs::Streams::Within))]
 fn main(rt: HostRuntime) {
-    let mut errors = rt.stderr();
-    let mut file = file_room();
-    match read_all(&mut rt.stdin(), &mut file) {
-        Input::Failed(why) => fail(&mut errors, b"rewrite: standard input can't be read", why),
-        Input::Bytes(length) => answer(&mut rt.stdout(), &mut errors, &file[..length]),
-    }
+    answer_input(
+        &mut rt.stdin(),
+        &mut rt.stdout(),
+        &mut rt.stderr(),
+        b"rewrite: ",
+        &mut file_room(),
+        &mut text_room(),
+        &mut words_room(),
+        rewritten,
+        explain,
+    );
 }

@@ -8,7 +8,7 @@ use lib.Seq.{take_at}
 use borrow.Author.Tests.{lt-ltb, le-ltb}
 use Rattle.std.specs.Prelude.{Result, Ok, Err}
 use Rattle.lemmas.proofs.Cases.{at_true, at_false}
-use Rattle.waits.specs.declared.numbers.Refusal.{Refusal}
+use Rattle.waits.specs.declared.refusals.Refusal.{Refusal}
 use Rattle.waits.specs.Rows.{row_size}
 use Rattle.waits.specs.Numbers.{Line as Rule, line, graph_lines, check_of}
 use Rattle.waits.proofs.Next.{next, not_refused}
@@ -26,6 +26,7 @@ use Rattle.report.specs.Report.Input.{TooLong, Says}
 use Rattle.report.proofs.Settle.{read_accepted, is_graph}
 use Rattle.report.proofs.Unique.{one_answer}
 use Rattle.rewritten.specs.Rewritten.{written_back, rewritten_of}
+use Rattle.waits.specs.declared.refusals.Reason.TheVariants.{ShortRoom}
 
 -- ---- the writer refuses neither an accepted graph nor room for any file
 module _ (n : ℕ) (rows found : List ℕ) (ok : check_of n rows ≡ Ok tt) (roomy : found ≡ replicate longest_file 0) where
@@ -35,7 +36,7 @@ module _ (n : ℕ) (rows found : List ℕ) (ok : check_of n rows ≡ Ok tt) (roo
   accepted : check_file_of n rows (length found) ≡ Ok tt
   unfolding check_of check_file_of short_room
   accepted =
-      let last : Rule = line 15 0 (short_room n rows (length found)) in
+      let last : Rule = line ShortRoom 0 (short_room n rows (length found)) in
       sym (not_refused last (next (graph_lines n rows) last) ok (le-ltb (length found) (length (file_of n rows)) (omega (arith, room_enough, file_short n rows ok))))
 
   module _ (left : List ℕ) (r : Result ℕ Refusal) (says : WrittenSays n rows found left r) where

@@ -11,7 +11,7 @@ use Rattle.records.proofs.Higher.{not_behind, in_round_at}
 use Rattle.records.proofs.Marks.{mark_round}
 use Rattle.waits.specs.Waits.{Waits}
 use Rattle.std.specs.Prelude.{Result, Ok}
-use Rattle.waits.specs.declared.numbers.Refusal.{Refusal}
+use Rattle.waits.specs.declared.refusals.Refusal.{Refusal}
 use Rattle.step.specs.declared.answers.Answer.{Answer}
 use Rattle.step.specs.Step.{Outcome, seen_in, nobody, still, open_round, take, receive}
 use Rattle.step.specs.Letters.{letters_of}

@@ -17,7 +17,7 @@ use Rattle.records.proofs.Higher.{in_round_at}
 use Rattle.records.proofs.Marks.{mark_round, mark_call}
 use Rattle.waits.specs.Waits.{Waits}
 use Rattle.std.specs.Prelude.{Result, Ok}
-use Rattle.waits.specs.declared.numbers.Refusal.{Refusal}
+use Rattle.waits.specs.declared.refusals.Refusal.{Refusal}
 use Rattle.step.specs.declared.answers.Verdict.{Verdict}
 use Rattle.step.specs.declared.answers.Answer.{Answer}
 use Rattle.step.specs.declared.answers.Answer.TheVariants.{Stray, Repeat}

@@ -11,7 +11,7 @@ use native.Mathlib.Decide.{ℕ_discrete}
 use borrow.Author.Tests.{eq-eqb, ne_eqb}
 use Rattle.waits.specs.Waits.{Waits}
 use Rattle.std.specs.Prelude.{Result}
-use Rattle.waits.specs.declared.numbers.Refusal.{Refusal}
+use Rattle.waits.specs.declared.refusals.Refusal.{Refusal}
 use Rattle.step.specs.declared.answers.Verdict.{Verdict}
 use Rattle.step.specs.declared.answers.Answer.{Answer}
 use Rattle.rounds.specs.Verdicts.{verdict_in}

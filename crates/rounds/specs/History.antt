@@ -5,7 +5,7 @@ use Rattle.lemmas.specs.Lists.{those}
 use Rattle.records.specs.Rounds.{cannot_open}
 use Rattle.records.specs.Messages.{Letter}
 use Rattle.records.specs.Records.{in_round}
-use Rattle.waits.specs.declared.numbers.Refusal.{Refusal}
+use Rattle.waits.specs.declared.refusals.Refusal.{Refusal}
 use Rattle.waits.specs.Waits.{Waits}
 use Rattle.step.specs.declared.answers.Verdict.{Verdict}
 use Rattle.step.specs.declared.answers.Answer.{Answer}

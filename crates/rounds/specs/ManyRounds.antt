@@ -3,7 +3,7 @@ use Rattle.std.specs.Prelude.{◌≡◌, ◌⊎◌, ◌↔◌, ℕ, ◌+◌, ◌
 use mathlib.Core.List.{List, [], ◌∷◌, Memᴰ}
 use Rattle.nodes.specs.Sets.{In}
 use Rattle.records.specs.Messages.{Letter}
-use Rattle.waits.specs.declared.numbers.Refusal.{Refusal}
+use Rattle.waits.specs.declared.refusals.Refusal.{Refusal}
 use Rattle.waits.specs.Waits.{Waits, edges}
 use Rattle.waits.specs.Deadlocked.{Reachable}
 use Rattle.deadlock.specs.Evidence.{Evidence}

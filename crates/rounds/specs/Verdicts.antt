@@ -1,7 +1,7 @@
 -- The verdicts that a round gives, and which of them are right. Assumes nothing.
 use Rattle.std.specs.Prelude.{List, [], ◌∷◌, ◌++◌, ℕ, Option, None, Some, Result, Ok, Err}
 use Rattle.records.specs.Messages.{Letter}
-use Rattle.waits.specs.declared.numbers.Refusal.{Refusal}
+use Rattle.waits.specs.declared.refusals.Refusal.{Refusal}
 use Rattle.waits.specs.Waits.{Waits}
 use Rattle.waits.specs.Deadlocked.{Deadlocked}
 use Rattle.step.specs.declared.answers.Verdict.{Verdict}

@@ -7,7 +7,7 @@ use Rattle.records.specs.Messages.{Letter}
 use Rattle.records.specs.Records.{State, blank_of, in_round, had_of, mark_of}
 use Rattle.records.specs.Rounds.{behind}
 use Rattle.std.specs.Prelude.{Option, Result, Ok}
-use Rattle.waits.specs.declared.numbers.Refusal.{Refusal}
+use Rattle.waits.specs.declared.refusals.Refusal.{Refusal}
 use Rattle.step.specs.declared.answers.Verdict.{Verdict}
 use Rattle.step.specs.declared.answers.Answer.{Answer}
 use Rattle.step.specs.declared.answers.Answer.TheVariants.{Old, Stray, Repeat, Taken, Opened}

@@ -9,7 +9,7 @@ use Rattle.nodes.proofs.Inside.{inside_none}
 use Rattle.records.specs.declared.causes.Why.TheVariants.{Itself}
 use Rattle.records.specs.Records.{blank_of}
 use Rattle.std.specs.Prelude.{Option, None, Some, Result, Ok}
-use Rattle.waits.specs.declared.numbers.Refusal.{Refusal}
+use Rattle.waits.specs.declared.refusals.Refusal.{Refusal}
 use Rattle.step.specs.declared.answers.Verdict.{Verdict}
 use Rattle.step.specs.declared.answers.Verdict.TheVariants.{NotDeadlocked, Deadlocked}
 use Rattle.step.specs.declared.answers.Answer.{Answer}

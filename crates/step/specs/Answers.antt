@@ -1,6 +1,7 @@
 -- What a controller answers: the number by which each answer is known outside, and what an opening says at once. Assumes nothing.
 use Rattle.std.specs.Prelude.{cond, ◌&&◌, ℕ, ◌+◌, eqb, Option, None, Some, Result, Ok, Err}
-use Rattle.waits.specs.declared.numbers.Refusal.{Refusal}
+use Rattle.waits.specs.declared.refusals.Refusal.{Refusal}
+use Rattle.waits.specs.Numbers.{reason_number}
 use Rattle.step.specs.declared.answers.Verdict.{Verdict}
 use Rattle.step.specs.declared.answers.Verdict.TheVariants.{Deadlocked, NotDeadlocked}
 use Rattle.step.specs.declared.answers.Answer.{Answer}
@@ -15,7 +16,7 @@ verdict_code (Some NotDeadlocked) = 2
 
 -- a refusal's own number is 1 to 99
 abbrev pub code_of : Result Answer Refusal → ℕ
-code_of (Err r) = r.number
+code_of (Err r) = reason_number r.reason
 code_of (Ok Old) = 100
 code_of (Ok Stray) = 101
 code_of (Ok Repeat) = 102

@@ -10,7 +10,7 @@ use Rattle.records.specs.Causes.{by_itself, sender_of}
 use Rattle.records.specs.Rounds.{behind}
 use Rattle.records.specs.Messages.{Letter}
 use Rattle.records.specs.Records.{State, called, free, blank_of, in_round, with_call, with_freed, had_of, mark_of}
-use Rattle.waits.specs.declared.numbers.Refusal.{Refusal}
+use Rattle.waits.specs.declared.refusals.Refusal.{Refusal}
 use Rattle.waits.specs.Waits.{Waits, in_of}
 use Rattle.step.specs.declared.answers.Verdict.{Verdict}
 use Rattle.step.specs.declared.answers.Verdict.TheVariants.{Deadlocked, NotDeadlocked}

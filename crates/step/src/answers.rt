@@ -49,7 +49,7 @@ pub fn code(answer: Result<Answer, Refusal>) -> u64
     ensures { result ≡ code_of answer }
 {
     match answer {
-        Err(r) => r.number,
+        Err(r) => r.reason.number(),
         Ok(Answer::Old) => 100,
         Ok(Answer::Stray) => 101,
         Ok(Answer::Repeat) => 102,

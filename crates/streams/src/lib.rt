@@ -1,10 +1,10 @@
 // Standard input and standard output, whole: a read or a write that fails is never taken for an end.
 #![tactic(auto)]
 
-ghost use Rattle.std.specs.Prelude.{◌≡◌, ◌-◌, ◌≤◌, length, take, drop, ℕ, OnOk, OnErr};
-ghost use Rattle.std.specs.Io.{ReadsAtMost};
-ghost use Rattle.std.specs.Io.KnownBytes.{Appends};
-ghost use Rattle.streams.specs.Streams.{Within, DoneWithin, Judges, Took, DoneTook, DonePut};
+ghost use Rattle.std.specs.Prelude.{◌≡◌, ◌<◌, ◌≤◌, length, take, ℕ, OnOk, OnErr, IfErr, Ok, ◌⊎◌};
+ghost use Rattle.std.specs.Io.KnownBytes.{Appends, Consumes, Keeps};
+ghost use Rattle.std.specs.IoError.{error_kind};
+ghost use Rattle.streams.specs.Streams.{Within, Took};
 
 use std::io;
 use std::io::{Cursor, Error, ErrorKind, Read, Write};
@@ -15,92 +15,37 @@ const TRIES: usize = 1000;
 // More than any error's words take.
 const WORDS: usize = 512;
 
-#[derive(Clone, Copy)]
-pub enum Input {
-    // A read failed, and the error says why.
-    Failed(Error),
-    // The input ended, or the room is full: so many bytes stand at its start.
-    Bytes(usize),
-}
-
-// What one call did.
-#[derive(Clone, Copy)]
-enum Done {
-    Failed(Error),
-    Interrupted(Error),
-    Bytes(usize),
-}
-
-// What a call on these bytes did that answered so.
-#[tactic(auto, unfolding(crate::specs::Streams::DoneWithin, crate::specs::Streams::Judges))]
-fn judged(answer: io::Result<usize>, part: &[u8]) -> Done
-    requires { ReadsAtMost answer part.now }
-    ensures within { DoneWithin (length part.now) result }
-    ensures judges { Judges answer result }
+// That a call which failed is made again: it was interrupted, and tries are left. Otherwise the error.
+fn again(why: Error, tries: &mut usize) -> io::Result<()>
+    ensures interrupted { OnOk result (error_kind why ≡ ErrorKind.Interrupted) }
+    ensures fewer { OnOk result (tries.new < tries.old) }
+    ensures error { IfErr result (λ e. e ≡ why) }
 {
-    match answer {
-        Ok(n) => Done::Bytes(n),
-        Err(e) => {
-            if e.kind() == ErrorKind::Interrupted {
-                return Done::Interrupted(e);
-            }
-            Done::Failed(e)
-        }
+    if why.kind() != ErrorKind::Interrupted || *tries == 0 {
+        return Err(why);
     }
+    *tries -= 1;
+    Ok(())
 }
 
-// One read, into the room from a place on.
-fn read_from<R: Read>(input: &mut R, room: &mut [u8], from: usize) -> Done
-    requires { from ≤ length room.old }
-    ensures within { DoneWithin (length room.new - from) result }
-    ensures before { take from room.new ≡ take from room.old }
-    ensures took { DoneTook (R.remaining input.old) (R.remaining input.new) (drop from room.new) result }
-{
-    let answer = input.read(&mut room[from..]);
-    judged(answer, &room[from..])
-}
-
-// One write, of the text from a place on.
-fn write_from<W: Write>(output: &mut W, text: &[u8], from: usize) -> Done
-    requires { from ≤ length text.now }
-    ensures within { DoneWithin (length text.now - from) result }
-    ensures put { DonePut (W.contents output.old) (W.contents output.new) (drop from text.now) result }
-{
-    let answer = output.write(&text[from..]);
-    judged(answer, &text[from..])
-}
-
-// Reads until the input ends or the room is full.
-#[tactic(auto, unfolding(crate::specs::Streams::Within, crate::specs::Streams::DoneWithin))]
-pub fn read_all<R: Read>(input: &mut R, room: &mut [u8]) -> Input
+// Reads until the input ends or the room is full, and says how many bytes stand at the room's start.
+pub fn read_all<R: Read>(input: &mut R, room: &mut [u8]) -> io::Result<usize>
     ensures within { Within (length room.new) result }
     ensures took { Took (R.remaining input.old) (R.remaining input.new) room.new result }
 {
     let mut done: usize = 0;
     let mut tries: usize = TRIES;
     while done < room.len() {
-        let part = read_from(input, room, done);
-        match part {
-            Done::Failed(e) => return Input::Failed(e),
-            Done::Interrupted(e) => {
-                if tries == 0 {
-                    return Input::Failed(e);
-                }
-                tries -= 1;
-            }
-            Done::Bytes(n) => {
-                if n == 0 {
-                    return Input::Bytes(done);
-                }
-                done += n;
-            }
+        match input.read(&mut room[done..]) {
+            Ok(0) => return Ok(done),
+            Ok(n) => done += n,
+            Err(e) => again(e, &mut tries)?,
         }
     }
-    Input::Bytes(done)
+    Ok(done)
 }
 
 // Writes all of a text, or answers with the error; that a write took nothing is one too.
-#[tactic(auto, unfolding(crate::specs::Streams::DoneWithin))]
 pub fn write_all<W: Write>(output: &mut W, text: &[u8]) -> io::Result<()>
     ensures whole { OnOk result (Appends (W.contents output.old) (W.contents output.new) text.now) }
     ensures part { OnErr result ((n : ℕ) × Appends (W.contents output.old) (W.contents output.new) (take n text.now)) }
@@ -108,21 +53,10 @@ pub fn write_all<W: Write>(output: &mut W, text: &[u8]) -> io::Result<()>
     let mut done: usize = 0;
     let mut tries: usize = TRIES;
     while done < text.len() {
-        let part = write_from(output, text, done);
-        match part {
-            Done::Failed(e) => return Err(e),
-            Done::Interrupted(e) => {
-                if tries == 0 {
-                    return Err(e);
-                }
-                tries -= 1;
-            }
-            Done::Bytes(n) => {
-                if n == 0 {
-                    return Err(Error::from(ErrorKind::WriteZero));
-                }
-                done += n;
-            }
+        match output.write(&text[done..]) {
+            Ok(0) => return Err(Error::from(ErrorKind::WriteZero)),
+            Ok(n) => done += n,
+            Err(e) => again(e, &mut tries)?,
         }
     }
     Ok(())
@@ -130,7 +64,7 @@ pub fn write_all<W: Write>(output: &mut W, text: &[u8]) -> io::Result<()>
 
 // Writes to standard error what a program has to say, behind its name; nothing if that is nothing.
 pub fn say<W: Write>(errors: &mut W, name: &[u8], words: &[u8]) {
-    if words.len() == 0 {
+    if words.is_empty() {
         return;
     }
     let _ = write_all(errors, name);
@@ -141,14 +75,13 @@ pub fn say<W: Write>(errors: &mut W, name: &[u8], words: &[u8]) {
 fn words_end(words: &[u8], is_of_system: bool) -> usize
     ensures { result ≤ length words.now }
 {
-    if is_of_system {
-        for at in (0..words.len()).rev() {
-            if words[at] == b'(' {
-                return at.saturating_sub(1);
-            }
-        }
+    if !is_of_system {
+        return words.len();
     }
-    words.len()
+    match words.iter().rposition(|b| *b == b'(') {
+        Some(at) => at.saturating_sub(1),
+        None => words.len(),
+    }
 }
 
 // Writes to standard error what can't be done, and why.
@@ -162,4 +95,51 @@ pub fn fail<W: Write>(errors: &mut W, what: &[u8], why: Error) {
     let _ = write_all(errors, b": ");
     let _ = write_all(errors, &room[..end]);
     let _ = write_all(errors, b"\n");
+}
+
+// The same behind a program's name.
+fn cannot<W: Write>(errors: &mut W, name: &[u8], what: &[u8], why: Error) {
+    let _ = write_all(errors, name);
+    fail(errors, what, why);
+}
+
+// What a program does that answers its input: it reads all of that into a room, writes what answers it, and then says behind its name what
+// is to be said of it, or what can't be done.
+pub fn answer_input<R: Read, W: Write, E: Write, A, X>(
+    input: &mut R,
+    output: &mut W,
+    errors: &mut E,
+    name: &[u8],
+    room: &mut [u8],
+    text: &mut [u8],
+    words: &mut [u8],
+    answer: A,
+    explain: X,
+)
+where
+    A: FnOnce(&[u8], &mut [u8]) -> usize,
+    X: FnOnce(&[u8], usize, &mut [u8]) -> usize,
+    requires answers { A.IsAlwaysCallable answer }
+    requires answer_ends { (f : _) (t : _) (n : _) (u : _) → A.post answer f t n u → n ≤ length u.now }
+    requires explains { X.IsAlwaysCallable explain }
+    requires words_end { (f : _) (e : _) (t : _) (n : _) (u : _) → X.post explain f e t n u → n ≤ length u.now }
+    ensures read { (n : ℕ) × Consumes (R.remaining input.old) (R.remaining input.new) (take n room.new) }
+    ensures wrote { Keeps (W.contents output.old) (W.contents output.new)
+        ⊎ ((f : _) × (t : _) × (end : ℕ) × (u : _) × A.post answer f t end u
+        × Took (R.remaining input.old) (R.remaining input.new) room.new (Ok (length f.now))
+        × (f.now ≡ take (length f.now) room.new) × (t.now ≡ text.old) × (u.now ≡ text.new)
+        × ((n : ℕ) × Appends (W.contents output.old) (W.contents output.new) (take n (take end text.new)))) }
+{
+    let length = match read_all(input, room) {
+        Ok(length) => length,
+        Err(why) => return cannot(errors, name, b"standard input can't be read", why),
+    };
+    let end = answer(&room[..length], text);
+    match write_all(output, &text[..end]) {
+        Ok(()) => {
+            let said = explain(&room[..length], end, words);
+            say(errors, name, &words[..said]);
+        }
+        Err(why) => cannot(errors, name, b"the answer can't be written", why),
+    }
 }

@@ -9,7 +9,7 @@ use lib.ListN.{length, take, length-replicate, length-append, drop_of_length-le}
 use lib.Seq.{sets, take-append-le, length-take-le}
 use borrow.Author.Tests.{le-ltb}
 use Rattle.std.specs.Prelude.{Result, Ok}
-use Rattle.waits.specs.declared.numbers.Refusal.{Refusal}
+use Rattle.waits.specs.declared.refusals.Refusal.{Refusal}
 use Rattle.lemmas.proofs.Cases.{at_false}
 use Rattle.lemmas.proofs.Stores.{in_front_lem, front_taken}
 use Rattle.nodes.specs.Words.{places}

@@ -9,15 +9,16 @@ use lib.Seq.{length-take-le}
 use Rattle.std.specs.Prelude.{Result, Ok, Err}
 use Rattle.std.proofs.lemmas.List.{get_or-take, at_drop_more, at_drop_all}
 use Rattle.records.specs.declared.messages.Message.{Message}
-use Rattle.waits.specs.declared.numbers.Refusal.{Refusal}
+use Rattle.waits.specs.declared.refusals.Refusal.{Refusal}
+use Rattle.waits.specs.Numbers.{reason_number}
 use Rattle.lent.specs.Coded.{message_of}
 use Rattle.lines.specs.Lines.{answer_lines, refused_line}
 use Rattle.transcript.specs.Transcript.{line_of, message_lines, told_of}
 
 module _ {c : Result Unit Refusal} (answers sent : List ℕ) where
-  pub told_refused : {r : Refusal} → c ≡ Err r → refused_line r.number 0 ≡ told_of c answers sent
+  pub told_refused : {r : Refusal} {n : ℕ} → c ≡ Err r → n ≡ reason_number r.reason → refused_line n 0 ≡ told_of c answers sent
   unfolding told_of
-  told_refused e = ap (λ (x : Result Unit Refusal). told_of x answers sent) (sym e)
+  told_refused e f = ap (λ (n : ℕ). refused_line n 0) f ∙ ap (λ (x : Result Unit Refusal). told_of x answers sent) (sym e)
 
   pub told_accepted : c ≡ Ok tt → answer_lines answers ++ message_lines 0 sent ≡ told_of c answers sent
   unfolding told_of

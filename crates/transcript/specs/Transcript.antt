@@ -1,7 +1,8 @@
 -- A script in, a text out: its steps are taken on a fresh bench, and the text says what came of them. Assumes nothing.
 use Rattle.std.specs.Prelude.{◌≡◌, List, [], ◌∷◌, ◌++◌, ℕ, suc, ◌*◌, ◌≤◌, length, take, drop, replicate, Result, Ok, Err}
 use Rattle.records.specs.declared.messages.Message.{Message}
-use Rattle.waits.specs.declared.numbers.Refusal.{Refusal}
+use Rattle.waits.specs.declared.refusals.Refusal.{Refusal}
+use Rattle.waits.specs.Numbers.{reason_number}
 use Rattle.lent.specs.Coded.{message_of}
 use Rattle.bench.specs.declared.calls.Ran.{Ran}
 use Rattle.bench.specs.Bench.{fresh}
@@ -24,7 +25,7 @@ message_lines k (x ∷ l) = line_of k (message_of x) ++ message_lines (suc k) l
 
 -- a line for each answer and then one for each message, or the one line of a list that is refused as a whole
 unfoldable pub told_of : Result Unit Refusal → List ℕ → List ℕ → List ℕ
-told_of (Err r) answers sent = refused_line r.number 0
+told_of (Err r) answers sent = refused_line (reason_number r.reason) 0
 told_of (Ok tt) answers sent = answer_lines answers ++ message_lines 0 sent
 
 abbrev pub told : Run → List ℕ

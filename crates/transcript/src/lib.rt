@@ -68,7 +68,7 @@ fn tell(out: &mut Text, ran: Ran, answers: &[u64], steps: usize, list: &[u64])
             lines::answers(out, answers, steps);
             messages(out, list, ran.sent);
         }
-        Err(r) => lines::refused(out, r.number, 0),
+        Err(r) => lines::refused(out, r.reason.number(), 0),
     }
 }
 

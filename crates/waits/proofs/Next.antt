@@ -4,7 +4,7 @@ use mathlib.Core.Bool.{Bool, true, false, cond}
 use mathlib.Core.List.{List, [], ◌∷◌, ◌++◌}
 use mathlib.Core.List.Memᴰ.{head as here}
 use Rattle.std.specs.Prelude.{Result, Ok, Err}
-use Rattle.waits.specs.declared.numbers.Refusal.{Refusal}
+use Rattle.waits.specs.declared.refusals.Refusal.{Refusal}
 use Rattle.waits.specs.Numbers.{Line, first_said}
 use Rattle.waits.proofs.Table.{or_else, said_append, refused_not_accepted, accepted_silent}
 

@@ -13,10 +13,11 @@ use native.Mathlib.Omega.{arith}
 use lib.ListN.{length}
 use Rattle.std.specs.Prelude.{Result, Ok, Err}
 use Rattle.waits.specs.declared.rows.Row.{Row}
-use Rattle.waits.specs.declared.numbers.Refusal.{Refusal}
+use Rattle.waits.specs.declared.refusals.Refusal.{Refusal}
 use Rattle.waits.specs.Rows.{row_at, Shaped}
 use Rattle.waits.specs.Numbers.{Line, line, wrong_count, strange_kind, strange_member, waits_on_itself, wrong_threshold, extra_set, bad_sets, many_edges, row_lines, rows_lines, graph_lines, first_said, check_of, Silent, Gives}
 use Rattle.waits.proofs.Cases.{right_count}
+use Rattle.waits.specs.declared.refusals.Reason.TheVariants.{WrongCount, StrangeKind, StrangeMember, WaitsOnItself, WrongThreshold, ExtraSet, BadSets, ManyEdges}
 
 -- ---- one list of lines after another
 abbrev pub or_else : Result Unit Refusal → Result Unit Refusal → Result Unit Refusal
@@ -102,12 +103,12 @@ pub record Fine (n k : ℕ) (r : Row) : Type 0 where
 
 pub fine : (n k : ℕ) (r : Row) → Silent (row_lines n k r) → Fine n k r
 fine n k r h = record {
-  kind = h (line 2 k (strange_kind r)) (here refl);
-  member = h (line 3 k (strange_member n r)) (there (here refl));
-  itself = h (line 4 k (waits_on_itself k r)) (there (there (here refl)));
-  threshold = h (line 5 k (wrong_threshold r)) (there (there (there (here refl))));
-  extra = h (line 6 k (extra_set r)) (there (there (there (there (here refl)))));
-  sets = h (line 7 k (bad_sets r)) (there (there (there (there (there (here refl))))));
+  kind = h (line StrangeKind k (strange_kind r)) (here refl);
+  member = h (line StrangeMember k (strange_member n r)) (there (here refl));
+  itself = h (line WaitsOnItself k (waits_on_itself k r)) (there (there (here refl)));
+  threshold = h (line WrongThreshold k (wrong_threshold r)) (there (there (there (here refl))));
+  extra = h (line ExtraSet k (extra_set r)) (there (there (there (there (here refl)))));
+  sets = h (line BadSets k (bad_sets r)) (there (there (there (there (there (here refl))))));
 }
 
 -- ---- what an accepted graph's lines say
@@ -122,7 +123,7 @@ row_of n rows (suc m) j k l a b i =
 
 module _ (n : ℕ) (rows : List ℕ) (ok : check_of n rows ≡ Ok tt) where
   pub accepted_count : wrong_count n (length rows) ≡ false
-  accepted_count = (check_accepted n rows).0 ok (line 1 0 (wrong_count n (length rows))) (here refl)
+  accepted_count = (check_accepted n rows).0 ok (line WrongCount 0 (wrong_count n (length rows))) (here refl)
 
   pub accepted_shaped : Shaped n rows
   accepted_shaped = right_count n (length rows) accepted_count
@@ -130,7 +131,7 @@ module _ (n : ℕ) (rows : List ℕ) (ok : check_of n rows ≡ Ok tt) where
   accepted_lines : (k : ℕ) → k < n → Silent (row_lines n k (row_at rows k))
   accepted_lines k h l i =
       (check_accepted n rows).0 ok l
-      (there (Memᴰ.append_left (line 8 0 (many_edges n rows) ∷ []) (row_of n rows n 0 k l (omega arith) (omega arith) i)))
+      (there (Memᴰ.append_left (line ManyEdges 0 (many_edges n rows) ∷ []) (row_of n rows n 0 k l (omega arith) (omega arith) i)))
 
   pub accepted_row : (k : ℕ) → k < n → Fine n k (row_at rows k)
   accepted_row k h = fine n k (row_at rows k) (accepted_lines k h)

@@ -1,6 +1,6 @@
 -- A graph of waits as the functions hold it: its count of nodes and its rows. Assumes nothing.
 use Rattle.std.specs.Prelude.{◌≡◌, List, ℕ, Result, Ok, Err}
-use Rattle.waits.specs.declared.numbers.Refusal.{Refusal}
+use Rattle.waits.specs.declared.refusals.Refusal.{Refusal}
 use Rattle.waits.specs.declared.graph.Graph.{Graph}
 use Rattle.waits.specs.Waits.{Waits}
 use Rattle.waits.specs.Rows.{waits_of}

@@ -6,9 +6,11 @@ use Rattle.lemmas.specs.Lists.{any_of}
 use Rattle.nodes.specs.Sets.{has, below, inside, size}
 use Rattle.nodes.specs.Words.{places, num}
 use Rattle.waits.specs.declared.rows.Row.{Row}
-use Rattle.waits.specs.declared.numbers.Refusal.{Refusal}
+use Rattle.waits.specs.declared.refusals.Refusal.{Refusal}
 use Rattle.waits.specs.Waits.{edges}
 use Rattle.waits.specs.Rows.{row_size, row_at, sets_of, later_of, out_of, lies_in, waits_of}
+use Rattle.waits.specs.declared.refusals.Reason.{Reason}
+use Rattle.waits.specs.declared.refusals.Reason.TheVariants.{WrongCount, StrangeKind, StrangeMember, WaitsOnItself, WrongThreshold, ExtraSet, BadSets, ManyEdges, NoNode, CannotOpen, NoStep, FullRoom, StrangeState, StrangeEntry, ShortRoom, NotAscending}
 
 -- the most edges that a graph may have
 abbrev pub most_edges : ℕ
@@ -61,23 +63,42 @@ bad_sets r = eqb r.kind 2 && (eqb (out_of r) 0 || nested (sets_of r))
 unfoldable pub many_edges : ℕ → List ℕ → Bool
 many_edges n rows = ltb most_edges (edges (waits_of n rows))
 
+-- the number of each line in the paper's table, by which it is known outside
+abbrev pub reason_number : Reason → ℕ
+reason_number WrongCount = 1
+reason_number StrangeKind = 2
+reason_number StrangeMember = 3
+reason_number WaitsOnItself = 4
+reason_number WrongThreshold = 5
+reason_number ExtraSet = 6
+reason_number BadSets = 7
+reason_number ManyEdges = 8
+reason_number NoNode = 9
+reason_number CannotOpen = 10
+reason_number NoStep = 11
+reason_number FullRoom = 12
+reason_number StrangeState = 13
+reason_number StrangeEntry = 14
+reason_number ShortRoom = 15
+reason_number NotAscending = 18
+
 -- A line of the table: its refusal, and whether it says that this one is given.
 pub record Line : Type 0 where
   pub gives : Refusal
   pub says : Bool
 
-abbrev pub line : ℕ → ℕ → Bool → Line
-line number k b = record { gives = record { number = number; row = record { 0 = k } }; says = b }
+abbrev pub line : Reason → ℕ → Bool → Line
+line reason k b = record { gives = record { reason = reason; row = record { 0 = k } }; says = b }
 
 -- 2 to 7 for the row of node k, in order
 abbrev pub row_lines : ℕ → ℕ → Row → List Line
 row_lines n k r =
-    line 2 k (strange_kind r)
-    ∷ line 3 k (strange_member n r)
-    ∷ line 4 k (waits_on_itself k r)
-    ∷ line 5 k (wrong_threshold r)
-    ∷ line 6 k (extra_set r)
-    ∷ line 7 k (bad_sets r)
+    line StrangeKind k (strange_kind r)
+    ∷ line StrangeMember k (strange_member n r)
+    ∷ line WaitsOnItself k (waits_on_itself k r)
+    ∷ line WrongThreshold k (wrong_threshold r)
+    ∷ line ExtraSet k (extra_set r)
+    ∷ line BadSets k (bad_sets r)
     ∷ []
 
 -- those of the rows from k on, ascending, of which there are m
@@ -87,7 +108,7 @@ rows_lines n rows k (suc m) = row_lines n k (row_at rows k) ++ rows_lines n rows
 
 -- 1; then the rows; then 8. A number that is not of a row gives row 0.
 abbrev pub graph_lines : ℕ → List ℕ → List Line
-graph_lines n rows = line 1 0 (wrong_count n (length rows)) ∷ rows_lines n rows 0 n ++ line 8 0 (many_edges n rows) ∷ []
+graph_lines n rows = line WrongCount 0 (wrong_count n (length rows)) ∷ rows_lines n rows 0 n ++ line ManyEdges 0 (many_edges n rows) ∷ []
 
 -- the first line that says so; accepted if none does
 abbrev pub first_said : List Line → Result Unit Refusal
@@ -117,4 +138,4 @@ pub record Gives (ls : List Line) (r : Refusal) : Type 0 where
 
 -- a refusal whose number and row one byte each can hold, as those of the table can
 abbrev pub Small : Refusal → Type 0
-Small r = (1 ≤ r.number) × (r.number < 256) × (r.row.0 < 256)
+Small r = (1 ≤ reason_number r.reason) × (reason_number r.reason < 256) × (r.row.0 < 256)

@@ -3,8 +3,10 @@
 
 mod graph;
 mod numbers;
+mod refusals;
 mod rows;
 
 pub use graph::Graph;
-pub use numbers::{EDGES, Refusal, check, check_row, refused, strange_count};
+pub use numbers::{EDGES, check, check_row, strange_count};
+pub use refusals::{Reason, Refusal, refused};
 pub use rows::{ROW, Row, holds, out_of, put_row, row_at};

@@ -6,24 +6,12 @@ ghost use Rattle.waits.specs.Numbers.{strange_count, wrong_count, wrong_threshol
 ghost use Rattle.waits.specs.Graph.{GraphSays};
 
 use crate::graph::Graph;
+use crate::refusals::{Reason, Refusal, refused};
 use crate::rows::{ROW, Row, later, lies_in, out_of};
 use nodes::{Node, PLACES, Set};
 
 // How many edges a graph may have.
 pub const EDGES: u64 = 512;
-
-// A refusal's number, and its row: 0 for a number that is not of a row.
-#[derive(Clone, Copy, Debug, PartialEq, Eq)]
-pub struct Refusal {
-    pub number: u64,
-    pub row: Node,
-}
-
-pub fn refused(number: u64, row: Node) -> Result<(), Refusal>
-    ensures { result ≡ Err (record { number = number; row = row }) }
-{
-    Err(Refusal { number, row })
-}
 
 // Whether no graph has this many nodes.
 #[tactic(auto, unfolding(crate::specs::Numbers::strange_count))]
@@ -96,22 +84,22 @@ pub fn check_row(nodes: usize, k: Node, row: Row) -> Result<(), Refusal>
     let all = Set::below(nodes);
     let out = out_of(row);
     if 2 < row.kind {
-        return refused(2, k);
+        return refused(Reason::StrangeKind, k);
     }
     if !out.inside(all) {
-        return refused(3, k);
+        return refused(Reason::StrangeMember, k);
     }
     if out.has(k) {
-        return refused(4, k);
+        return refused(Reason::WaitsOnItself, k);
     }
     if wrong_threshold(row) {
-        return refused(5, k);
+        return refused(Reason::WrongThreshold, k);
     }
     if extra_set(row) {
-        return refused(6, k);
+        return refused(Reason::ExtraSet, k);
     }
     if bad_sets(row) {
-        return refused(7, k);
+        return refused(Reason::BadSets, k);
     }
     Ok(())
 }
@@ -122,7 +110,7 @@ pub fn check(nodes: usize, rows: &[u64]) -> Result<(), Refusal>
     ensures { result ≡ check_of nodes rows.now }
 {
     if wrong_count(nodes, rows.len()) {
-        return refused(1, Node(0));
+        return refused(Reason::WrongCount, Node(0));
     }
     let graph = Graph { nodes, rows };
     for k in 0..nodes {
@@ -130,7 +118,7 @@ pub fn check(nodes: usize, rows: &[u64]) -> Result<(), Refusal>
         check_row(nodes, Node(k), row)?;
     }
     if EDGES < graph.edges() {
-        return refused(8, Node(0));
+        return refused(Reason::ManyEdges, Node(0));
     }
     Ok(())
 }

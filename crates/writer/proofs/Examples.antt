@@ -7,6 +7,7 @@ use Rattle.std.specs.Prelude.{Ok, Err}
 use Rattle.text.specs.Words.{word}
 use Rattle.format.proofs.Open.{open_format}
 use Rattle.writer.specs.Answer.{short_room, check_file_of, written_of, left_of}
+use Rattle.waits.specs.declared.refusals.Reason.TheVariants.{StrangeKind, ShortRoom}
 
 -- the paper's case 4: its file has 65 bytes
 rows_4 : List ℕ
@@ -27,7 +28,7 @@ unfolding open_format rows_4 short_room check_file_of written_of
 exact = refl
 
 -- one byte less: 15, and nothing is written
-short : written_of 2 rows_4 64 ≡ Err (record { number = 15; row = record { 0 = 0 } })
+short : written_of 2 rows_4 64 ≡ Err (record { reason = ShortRoom; row = record { 0 = 0 } })
 unfolding open_format rows_4 short_room check_file_of written_of
 short = refl
 
@@ -36,7 +37,7 @@ unfolding open_format rows_4 short_room check_file_of left_of
 short_left = refl
 
 -- the graph's number comes first
-graph_first : written_of 1 (3 ∷ 0 ∷ 0 ∷ 0 ∷ 0 ∷ 0 ∷ []) 0 ≡ Err (record { number = 2; row = record { 0 = 0 } })
+graph_first : written_of 1 (3 ∷ 0 ∷ 0 ∷ 0 ∷ 0 ∷ 0 ∷ []) 0 ≡ Err (record { reason = StrangeKind; row = record { 0 = 0 } })
 unfolding open_format short_room check_file_of written_of
 graph_first = refl
 

@@ -30,6 +30,7 @@ use Rattle.text.proofs.Decimal.{decimal_two}
 use Rattle.format.specs.Cut.{space, comma, cr, lf, behind, joined, ended}
 use Rattle.format.specs.Written.{set_text, row_text, row_texts, header_text, file_of}
 use Rattle.writer.specs.Answer.{longest_file}
+use Rattle.waits.specs.declared.refusals.Reason.TheVariants.{ManyEdges}
 
 -- ---- a set: three bytes at most for each member
 abbrev Small : List ℕ → Type 0
@@ -134,7 +135,7 @@ module _ (n : ℕ) (rows : List ℕ) (ok : check_of n rows ≡ Ok tt) where
   edges_few : edges w ≤ most_edges
   unfolding many_edges
   edges_few =
-      ltb-false most_edges (edges w) ((check_accepted n rows).0 ok (line 8 0 (many_edges n rows)) (there (Memᴰ.append_right (rows_lines n rows 0 n) (here refl))))
+      ltb-false most_edges (edges w) ((check_accepted n rows).0 ok (line ManyEdges 0 (many_edges n rows)) (there (Memᴰ.append_right (rows_lines n rows 0 n) (here refl))))
 
   -- Theorem: no file of an accepted graph is longer than this.
   pub file_short : length (file_of n rows) ≤ longest_file

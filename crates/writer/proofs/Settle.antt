@@ -7,7 +7,7 @@ use lib.ListN.{length, take, drop, replicate, length-replicate}
 use lib.Seq.{take_at, length-take-le}
 use borrow.Author.Tests.{lt-ltb, le-ltb}
 use Rattle.std.specs.Prelude.{Result, Ok, Err}
-use Rattle.waits.specs.declared.numbers.Refusal.{Refusal}
+use Rattle.waits.specs.declared.refusals.Refusal.{Refusal}
 use Rattle.waits.specs.Numbers.{Line, line, graph_lines, check_of}
 use Rattle.waits.proofs.Next.{Next, next, refused_before, refused_here, not_refused}
 use Rattle.text.specs.Text.{Text, text, write}
@@ -15,6 +15,7 @@ use Rattle.text.proofs.Writing.{write_fits, written_end}
 use Rattle.format.specs.Written.{file_of}
 use Rattle.writer.specs.Answer.{short_room, check_file_of, answer, leave, written_of, left_of, WrittenSays, longest_file}
 use Rattle.writer.proofs.Lengths.{file_short}
+use Rattle.waits.specs.declared.refusals.Reason.TheVariants.{ShortRoom}
 
 -- ---- the file was made in a place of its own
 module _ (n : ℕ) (rows blank made : List ℕ) (end : ℕ) (m : text made end ≡ write (text blank 0) (file_of n rows)) where
@@ -42,7 +43,7 @@ module _ (n : ℕ) (rows found : List ℕ) where
   settled e = (ap (λ (c : Result Unit Refusal). answer c (file_of n rows)) e, ap (λ (c : Result Unit Refusal). leave c (file_of n rows) found) e)
 
   abbrev last : Line
-  last = line 15 0 (short_room n rows (length found))
+  last = line ShortRoom 0 (short_room n rows (length found))
 
   follows : Next (check_of n rows) last (check_file_of n rows (length found))
   unfolding check_of check_file_of

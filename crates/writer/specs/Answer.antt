@@ -1,9 +1,10 @@
 -- What the writer of a file answers, and how it leaves the lent bytes. Assumes nothing.
 use Rattle.std.specs.Prelude.{◌≡◌, Bool, List, [], ◌∷◌, ◌++◌, ℕ, ◌+◌, ◌*◌, ltb, length, drop, Result, Ok, Err}
 use Rattle.nodes.specs.Words.{places}
-use Rattle.waits.specs.declared.numbers.Refusal.{Refusal}
+use Rattle.waits.specs.declared.refusals.Refusal.{Refusal}
 use Rattle.waits.specs.Numbers.{most_edges, Line, line, graph_lines, first_said}
 use Rattle.format.specs.Written.{file_of}
+use Rattle.waits.specs.declared.refusals.Reason.TheVariants.{ShortRoom}
 
 -- 15: fewer bytes are lent than the file has
 unfoldable pub short_room : ℕ → List ℕ → ℕ → Bool
@@ -11,7 +12,7 @@ short_room n rows room = ltb room (length (file_of n rows))
 
 -- the graph's own numbers; then 15, which is not of a row
 abbrev pub file_lines : ℕ → List ℕ → ℕ → List Line
-file_lines n rows room = graph_lines n rows ++ line 15 0 (short_room n rows room) ∷ []
+file_lines n rows room = graph_lines n rows ++ line ShortRoom 0 (short_room n rows room) ∷ []
 
 -- what the check answers with so many lent bytes
 unfoldable pub check_file_of : ℕ → List ℕ → ℕ → Result Unit Refusal

@@ -12,7 +12,7 @@ ghost use Rattle.writer.specs.Answer.{WrittenSays, longest_file};
 
 use nodes::{Node, Set};
 use text::Text;
-use waits::{Refusal, Row, check, row_at};
+use waits::{Reason, Refusal, Row, check, row_at};
 
 // No file of an accepted graph is longer: 41 bytes for the header, 14 for each of at most 64 rows, 12 for each of at most 512 edges.
 const LONGEST: usize = 7081;
@@ -92,7 +92,7 @@ pub fn write_file(nodes: usize, rows: &[u64], room: &mut [u8]) -> Result<usize, 
     let end = make_file(&mut file, nodes, rows);
     if room.len() < end {
         return Err(Refusal {
-            number: 15,
+            reason: Reason::ShortRoom,
             row: Node(0),
         });
     }

@@ -7,4 +7,4 @@ pub returns-in-Ok : goal.returns-in-Ok
 returns-in-Ok c = wrote_as (told_accepted _ _ c.in-Ok.is) (wrote_then c.answers.ensures c.messages.ensures)
 
 pub returns-in-Err : goal.returns-in-Err
-returns-in-Err c = wrote_as (told_refused _ _ c.in-Err.is) c.refused.ensures
+returns-in-Err c = wrote_as (told_refused _ _ c.in-Err.is c.number.ensures) c.refused.ensures

@@ -6,5 +6,5 @@ use Rattle.mornings.proofs.orders.ordered.Goals as goal
 pub slice_bounds-room-end : goal.slice_bounds-room-end
 slice_bounds-room-end g c = written_end _ _ c.messages-written.ensures
 
-pub slice_bounds-text-end-2 : goal.slice_bounds-text-end-2
-slice_bounds-text-end-2 g c = sym (length-take-le _ _ (written_end _ _ c.messages-written.ensures))
+pub slice_bounds-write_all-end : goal.slice_bounds-write_all-end
+slice_bounds-write_all-end g c = sym (length-take-le _ _ (written_end _ _ c.messages-written.ensures))

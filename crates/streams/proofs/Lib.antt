@@ -1,2 +1,0 @@
--- What was moved.
-pub mod Moved
