@@ -7,6 +7,7 @@ use lent::record_at;
 use nodes::{Node, Set};
 use records::{Cause, Why};
 use std::io;
+use text::Text;
 use transcript::messages;
 
 const NODES: usize = 3;
@@ -75,7 +76,9 @@ fn ordered(rt: &impl Print, label: &str, order: &[u8]) -> io::Result<()> {
     full_round(rt, NODES, &ROWS, &mut records, &mut sent, 0, order)?;
     end(rt, &records)?;
     callers(rt, &records)?;
-    let written = messages(&mut room, 0, &sent, SENT);
+    let mut out = Text::new(&mut room);
+    messages(&mut out, &sent, SENT);
+    let written = out.end;
     rt.write_all(&room[..written])
 }
 

@@ -16,9 +16,9 @@ use Rattle.lines.specs.Lines.{answer_lines, refused_line}
 use Rattle.transcript.specs.Transcript.{line_of, message_lines, told_of}
 
 module _ {c : Result Unit Refusal} (answers sent : List ℕ) where
-  pub told_refused : {r : Refusal} → c ≡ Err r → refused_line (reason_number r.reason) 0 ≡ told_of c answers sent
+  pub told_refused : {r : Refusal} {n : ℕ} → c ≡ Err r → n ≡ reason_number r.reason → refused_line n 0 ≡ told_of c answers sent
   unfolding told_of
-  told_refused e = ap (λ (x : Result Unit Refusal). told_of x answers sent) (sym e)
+  told_refused e f = ap (λ (n : ℕ). refused_line n 0) f ∙ ap (λ (x : Result Unit Refusal). told_of x answers sent) (sym e)
 
   pub told_accepted : c ≡ Ok tt → answer_lines answers ++ message_lines 0 sent ≡ told_of c answers sent
   unfolding told_of

@@ -1,7 +1,4 @@
 -- `tell` meets its contract. Assumes nothing.
-use mathlib.Core.Path.{ap, ◌∙◌}
-use Prim.Native.Nat.{ℕ}
-use Rattle.lines.specs.Lines.{refused_line}
 use Rattle.text.proofs.Writing.{wrote_then, wrote_as}
 use Rattle.transcript.proofs.Told.{told_accepted, told_refused}
 use Rattle.transcript.proofs.tell.Goals as goal
@@ -10,4 +7,4 @@ pub returns-in-Ok : goal.returns-in-Ok
 returns-in-Ok c = wrote_as (told_accepted _ _ c.in-Ok.is) (wrote_then c.answers.ensures c.messages.ensures)
 
 pub returns-in-Err : goal.returns-in-Err
-returns-in-Err c = wrote_as (ap (λ (n : ℕ). refused_line n 0) c.number.ensures ∙ told_refused _ _ c.in-Err.is) c.refused.ensures
+returns-in-Err c = wrote_as (told_refused _ _ c.in-Err.is c.number.ensures) c.refused.ensures
