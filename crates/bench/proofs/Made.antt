@@ -41,7 +41,7 @@ use Rattle.step.specs.declared.answers.Answer.{Answer}
 use Rattle.bench.specs.Bench.{Bench, bench, after, refusal, room_of, most_room}
 use Rattle.bench.specs.Strange.{strange_record_on, strange_message_on, strange_records, Good}
 use Rattle.bench.specs.Steps.{join}
-use Rattle.bench.proofs.Sound.{Sound, is_accepted, good_sound, shaped, room_le, few_sent, record_there, sent_fine}
+use Rattle.bench.proofs.Sound.{Sound, is_accepted, good_sound, shaped, room_le, few_sent, sent_listed, record_there, sent_fine}
 use Rattle.bench.proofs.Keeping.{opened_fine, from_there, to_there, was_record, arrived_fine}
 use Rattle.waits.specs.declared.refusals.Reason.TheVariants.{FullRoom}
 
@@ -101,6 +101,9 @@ arrived_as records i m e f g = received_as m e f (ap state_of g)
 -- ---- rows that a good state stands on
 pub good_shaped : (n : ℕ) (rows : List ℕ) (b : Bench) → Good n rows b → Shaped n rows
 good_shaped n rows b good = shaped n rows b (good_sound n rows b good)
+
+pub good_listed : (n : ℕ) (rows : List ℕ) (b : Bench) → Good n rows b → b.sent ≤ length b.messages
+good_listed n rows b good = sent_listed n rows b (good_sound n rows b good)
 
 -- ---- what joining asks for
 abbrev pub Joins : List ℕ → ℕ → ℕ → Outcome → Type 0

@@ -1,11 +1,10 @@
 // Number 13: whether the state of a bench can be.
-ghost use Rattle.std.specs.Prelude.{◌≡◌, ◌*◌, ◌≤◌, length, take};
+ghost use Rattle.std.specs.Prelude.{◌≡◌, ◌*◌, ◌≤◌, length};
 ghost use Rattle.nodes.specs.Words.{places};
 ghost use Rattle.records.specs.Records.{state_of};
 ghost use Rattle.lent.specs.Kept.{record_size};
 ghost use Rattle.bench.specs.Bench.{bench, room_of};
-ghost use Rattle.bench.specs.Strange.{is_refused, strange_record_on, strange_message_on, strange_records, strange_messages, strange_bench};
-ghost use Rattle.waits.specs.Numbers.{check_of};
+ghost use Rattle.bench.specs.Strange.{strange_record_on, strange_message_on, strange_records, strange_messages, strange_bench};
 
 use lent::{RECORD, message_of, record_at};
 use nodes::{Node, Round};
@@ -38,6 +37,7 @@ fn strange_message_on(nodes: usize, highest: Round, m: Message) -> bool
     strange_message(nodes, m) || ahead(m.round, highest)
 }
 
+#[tactic(auto, using(crate::proofs::Made::record_found, crate::proofs::Made::record_passed, crate::proofs::Made::records_passed))]
 fn strange_records(nodes: usize, records: &[u64], highest: Round) -> bool
     requires { (nodes ≤ places) × (length records.now ≡ nodes * record_size) }
     ensures { result ≡ strange_records nodes highest.0 records.now }
@@ -50,6 +50,7 @@ fn strange_records(nodes: usize, records: &[u64], highest: Round) -> bool
     false
 }
 
+#[tactic(auto, using(lemmas::proofs::Any::any_found, lemmas::proofs::Any::any_ended), unfolding(crate::specs::Strange::strange_messages))]
 fn strange_messages(nodes: usize, sent: &[u64], highest: Round) -> bool
     ensures { result ≡ strange_messages nodes highest.0 sent.now }
 {
@@ -61,7 +62,7 @@ fn strange_messages(nodes: usize, sent: &[u64], highest: Round) -> bool
     false
 }
 
-#[tactic(auto, unfolding(crate::specs::Strange::strange_bench))]
+#[tactic(auto, unfolding(crate::specs::Strange::strange_bench), using(crate::proofs::Made::graph_shaped, crate::proofs::Made::in_list))]
 pub fn strange_bench(
     nodes: usize,
     rows: &[u64],

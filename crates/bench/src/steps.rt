@@ -111,7 +111,7 @@ impl<'a> AtWork<'a> {
         self.join(highest, m.to, did)
     }
 
-    #[tactic(auto, unfolding(crate::specs::Steps::deliver_at))]
+    #[tactic(auto, unfolding(crate::specs::Steps::deliver_at), using(crate::proofs::Made::good_listed))]
     fn deliver_at(&mut self, k: usize) -> Result<Answer, Refusal>
         requires { GoodAtWork self.old }
         ensures same_lists { SameLists self.old self.new }
