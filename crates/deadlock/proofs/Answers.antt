@@ -12,9 +12,9 @@ use Rattle.nodes.specs.Sets.{In, Inside, has, meet, with, below, members, size}
 use Rattle.nodes.specs.Words.{places}
 use Rattle.nodes.proofs.Bit.{bit_empty, has_in, in_has}
 use Rattle.nodes.proofs.Operations.{in_meet, in_with, in_below}
-use Rattle.nodes.proofs.Inside.{inside_in}
+use Rattle.nodes.proofs.Inside.{inside_in, inside_lt, inside_member}
 use Rattle.nodes.proofs.Members.{members_in, members_ascending}
-use Rattle.nodes.proofs.Size.{size_members}
+use Rattle.nodes.proofs.Size.{size_le, size_members}
 use Rattle.waits.specs.Waits.{Waits, Lawful}
 use Rattle.waits.specs.Deadlocked.{Deadlocked, Path, Reachable}
 use Rattle.waits.specs.Rows.{waits_of, Shaped}
@@ -124,6 +124,12 @@ pub room_write : (n : ℕ) (rows : List ℕ) (i : ℕ) (found : List ℕ) (s : �
 room_write n rows i found s ok e =
     let p = room_accepted n rows i (length found) ok in
     (knot_below n rows i p.0 s e, (node_shaped n rows i p.0).0.0, p.1)
+
+pub room_fits : (n : ℕ) (rows : List ℕ) (i : ℕ) (found : List ℕ) (s : ℕ) → check_room_of n rows i (length found) ≡ Ok tt → s ≡ knot (waits_of n rows) i
+    → (size s ≤ length found) × Inside s (below places)
+room_fits n rows i found s ok e =
+    let (inside, small, room) = room_write n rows i found s ok e in
+    (omega (arith, size_le n s (inside_lt n s inside)), inside_in _ _ (λ j m. let h = (in_below n j).0 (inside_member s (below n) j inside m) in (in_below places j).1 (omega arith)))
 
 pub room_written : (n : ℕ) (rows : List ℕ) (i : ℕ) (found left : List ℕ) (s k : ℕ) → check_room_of n rows i (length found) ≡ Ok tt → s ≡ knot (waits_of n rows) i
     → (k ≡ size s) × (left ≡ members s ++ drop (size s) found) → WrittenSays n rows i found left (Ok k)

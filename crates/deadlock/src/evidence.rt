@@ -38,22 +38,20 @@ fn knot(graph: Graph, i: Node) -> Set
 }
 
 // Writes the members of a set, ascending, one byte each; the bytes after them stay.
-fn write(s: Set, nodes: usize, room: &mut [u8]) -> usize
-    requires { Inside (num s) (below nodes) × (nodes ≤ places) × (nodes ≤ length room.old) }
+fn write(s: Set, room: &mut [u8]) -> usize
+    requires { (size (num s) ≤ length room.old) × Inside (num s) (below places) }
     ensures { (result ≡ size (num s)) × (room.new ≡ members (num s) ++ drop (size (num s)) room.old) }
 {
     let mut at: usize = 0;
-    for k in 0..nodes {
-        if s.has(Node(k)) {
-            room[at] = k as u8;
-            at += 1;
-        }
+    for k in s.members() {
+        room[at] = k.0 as u8;
+        at += 1;
     }
     at
 }
 
 // Writes the evidence for i, and says how many bytes it has. The room must have a byte for every node of the graph.
-#[tactic(auto, using(crate::proofs::Answers::room_shaped, crate::proofs::Answers::room_write))]
+#[tactic(auto, using(crate::proofs::Answers::room_shaped))]
 pub fn write_evidence(
     nodes: usize,
     rows: &[u64],
@@ -63,7 +61,7 @@ pub fn write_evidence(
     ensures { WrittenSays nodes rows.now i.0 room.old room.new result }
 {
     let graph = check_room(nodes, rows, i, room.len())?;
-    Ok(write(knot(graph, i), nodes, room))
+    Ok(write(knot(graph, i), room))
 }
 
 // The set of the nodes that a list names.
