@@ -1,7 +1,8 @@
 -- The page that a reader must believe: the three demands, sentence by sentence, with what the paper adds to them. Every name means
 -- what its own file says, and ../proofs/Demands.antt shows that the statements follow. The calls promise what is spoken of here:
 -- `check` check_of, `check_evidence` judged_of, `all_deadlocked` FoundSays, `deadlocked` ClaimSays, `ring_report` ReportSays,
--- `write_evidence` WrittenSays, `waiting_on` InSays, `open` open_of, `deliver` deliver_of, `step` step_on, `run` run_of. Assumes nothing.
+-- `write_evidence` WrittenSays, `waiting_on` InSays, `open` open_of, `deliver` deliver_of, `step` step_on, `run` run_of. A call that is
+-- refused answers `Err` and the refusal, any other `Ok` and what it says; of a claim that is whether it is deadlocked. Assumes nothing.
 use Rattle.std.specs.Prelude.{◌≡◌, true, false, ◌⊎◌, ◌↔◌, ℕ, ◌+◌, ◌*◌, ◌≤◌, ◌<◌, length, take, drop, Result, Ok, Err, Option, Bool}
 use mathlib.Core.List.{List, [], ◌∷◌, ◌++◌, map, Memᴰ}
 use Rattle.nodes.specs.declared.Node.{Node}

@@ -1,5 +1,6 @@
 -- The mornings that the paper marks with *, in its order: all that it says of them, under one claim, which `table` in
--- ../proofs/Table.antt shows. The paper counts nodes from 1; every node number here is one less. Assumes nothing.
+-- ../proofs/Table.antt shows. The paper counts nodes from 1; every node number here is one less. A step that says nothing of its round
+-- has no verdict, `None`. Assumes nothing.
 use Rattle.std.specs.Prelude.{◌≡◌, true, false, ◌↔◌, ℕ, ◌<◌, length, replicate, Ok, Err, Some, None}
 use mathlib.Core.List.{List, [], ◌∷◌, ◌++◌, map, Memᴰ}
 use Rattle.records.specs.declared.messages.Kind.TheVariants.{Notify, Grant, Ack, Done}
