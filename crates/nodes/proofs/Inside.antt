@@ -2,7 +2,7 @@
 use mathlib.Core.Path.{◌≡◌, ap, subst}
 use mathlib.Core.Bool.{Bool, true, false}
 use mathlib.Core.Logic.{⊎_elim, ◌↔◌}
-use Prim.Native.Nat.{ℕ, ◌%◌, ◌^◌, ◌<◌}
+use Prim.Native.Nat.{ℕ, ◌%◌, ◌^◌, ◌<◌, ◌≤◌}
 use native.Mathlib.Nat.{mod-lt, le_refl, le_trans}
 use native.Mathlib.Omega.{arith}
 use native.Mathlib.Decide.{dec_lt, ℕ_discrete}
@@ -11,7 +11,7 @@ use lib.Pow.{pow_pos}
 use borrow.Author.Tests.{eqb-true, eq-eqb}
 use Rattle.lemmas.proofs.Tests.{same_test}
 use Rattle.nodes.specs.Sets.{bit, In, union, meet, minus, single, with, below, inside, Inside, keep}
-use Rattle.nodes.proofs.Bit.{bit_le, in_or_out, bit_above, bit_mod, same, bit_empty, empty_same}
+use Rattle.nodes.proofs.Bit.{in_lt, bit_le, in_or_out, bit_above, bit_mod, same, bit_empty, empty_same}
 use Rattle.nodes.proofs.Operations.{bit_meet, bit_union, bit_minus, bit_single_other, with_union, bit_with, in_with, below_lt, in_below}
 
 pub inside_of : (a b : ℕ) → inside a b ≡ true → Inside a b
@@ -98,3 +98,7 @@ inside_none a = same_test _ _ (λ e. eq-eqb a 0 (inside_empty a (inside_of a 0 e
 pub keep_grows : (b : Bool) (k s : ℕ) → Inside s (keep b k s)
 keep_grows true k s = with_grows s k
 keep_grows false k s = λ j. le_refl (bit s j)
+
+-- a set below 2 ^ w has nobody from w on
+pub inside_any : (w s n : ℕ) → s < 2 ^ w → w ≤ n → inside s (below n) ≡ true
+inside_any w s n h l = of_inside s (below n) (inside_in s (below n) (λ k i. (in_below n k).1 (omega (arith, in_lt w s k h i, l))))

@@ -90,6 +90,13 @@ impl Set {
         (self.0 & t.0) == self.0
     }
 
+    // Whether each member is below n. No set has a member past the places, so any n may be asked for.
+    pub fn among(self, n: usize) -> bool
+        ensures { result ≡ inside (num self) (below n) }
+    {
+        PLACES <= n || self.inside(Set::below(n))
+    }
+
     // How many members there are. The bound spares callers the width of a set.
     pub fn size(self) -> u64
         ensures { (result ≡ size (num self)) × (result ≤ places) }
