@@ -93,10 +93,10 @@ module _ (b : Bench) (next i : ℕ) (out : Outcome) {x y : ℕ} (room : x ≡ ro
       (λ k. after (bench (e k) (f.1 k) ((f.0 ∙ ap (λ (z : ℕ). b.sent + z) (sym (letters_count i out.state.round out.sends))) k) next) out.answer)
 
 -- ---- what a node does with its record in the list
-pub arrived_as : (records : List ℕ) (i : ℕ) (m : Letter) {o p : Seen} {r : Record} {x : Outcome} → x ≡ receive o (state_of r) m → o ≡ p → r ≡ record_at records i
-    → x ≡ receive p (state_at records i) m
+pub arrived_as : (records : List ℕ) (i : ℕ) {m n : Letter} {o p : Seen} {r : Record} {x : Outcome} → x ≡ receive o (state_of r) m → o ≡ p → r ≡ record_at records i → m ≡ n
+    → x ≡ receive p (state_at records i) n
 unfolding state_at
-arrived_as records i m e f g = received_as m e f (ap state_of g)
+arrived_as records i e f g h = received_as e f (ap state_of g) h
 
 -- ---- rows that a good state stands on
 pub good_shaped : (n : ℕ) (rows : List ℕ) (b : Bench) → Good n rows b → Shaped n rows
@@ -146,13 +146,14 @@ module _ (n : ℕ) (rows : List ℕ) (b : Bench) (good : Good n rows b) where
   pub arrive_there : (m : Message) → strange_message_on n b.highest m ≡ false → (m.to.0 < n) × (m.to.0 * record_size + record_size ≤ length b.records)
   arrive_there m e = let h = to_there n rows b sound m e in (h, record_there n rows b sound m.to.0 h)
 
-  pub arrive_fits : (m : Message) {r : Record} → strange_message_on n b.highest m ≡ false → r ≡ record_at b.records m.to.0
-      → (m.from.0 < places) × Fitting (state_of r)
+  pub from_fits : (m : Message) → strange_message_on n b.highest m ≡ false → m.from.0 < places
+  from_fits m e = let few : n ≤ places = (shaped n rows b sound).0 in let h = from_there n rows b sound m e in omega arith
+
+  pub arrive_fits : (m : Message) {r : Record} → strange_message_on n b.highest m ≡ false → r ≡ record_at b.records m.to.0 → Fitting (state_of r)
   unfolding state_at
   arrive_fits m e q =
       let few : n ≤ places = (shaped n rows b sound).0 in
-      let h = from_there n rows b sound m e in
-      (omega arith, subst (λ (x : Record). Fitting (state_of x)) (sym q) (record_fits n _ few (was_record n rows b sound m e)))
+      subst (λ (x : Record). Fitting (state_of x)) (sym q) (record_fits n _ few (was_record n rows b sound m e))
 
   pub sent_there : (k : ℕ) {m : Message} → k < b.sent → m ≡ message_of (get_or b.messages k 0) → strange_message_on n b.highest m ≡ false
   sent_there k h e = ap (strange_message_on n b.highest) e ∙ sent_fine n rows b sound k h

@@ -8,7 +8,7 @@ ghost use Rattle.bench.specs.Strange.{strange_record_on, strange_message_on, str
 
 use lent::{RECORD, message_of, record_at};
 use nodes::{Node, Round};
-use records::{LAST, Message, Record, ahead, strange_message, strange_record};
+use records::{LAST, Message, Record, ahead};
 use waits::check;
 
 // The most messages that a bench holds.
@@ -27,14 +27,14 @@ fn strange_record_on(nodes: usize, highest: Round, r: Record) -> bool
     requires { nodes ≤ places }
     ensures { result ≡ strange_record_on nodes highest.0 (state_of r) }
 {
-    strange_record(nodes, r) || ahead(r.round, highest)
+    r.strange(nodes) || ahead(r.round, highest)
 }
 
 #[tactic(auto, unfolding(crate::specs::Strange::strange_message_on))]
 fn strange_message_on(nodes: usize, highest: Round, m: Message) -> bool
     ensures { result ≡ strange_message_on nodes highest.0 m }
 {
-    strange_message(nodes, m) || ahead(m.round, highest)
+    m.strange(nodes) || ahead(m.round, highest)
 }
 
 #[tactic(auto, using(crate::proofs::Made::record_found, crate::proofs::Made::record_passed, crate::proofs::Made::records_passed))]

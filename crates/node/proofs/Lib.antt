@@ -1,4 +1,4 @@
 -- The laws of one controller.
 pub mod Refused
-pub mod Told
+pub mod Last
 pub mod Whole

@@ -1,36 +1,29 @@
 // The two calls of a controller: it opens a round, or a message is delivered to it.
-ghost use Rattle.std.specs.Prelude.{◌≡◌, length};
+ghost use Rattle.std.specs.Prelude.{◌≡◌};
 ghost use Rattle.nodes.specs.Words.{num};
 ghost use Rattle.records.specs.Records.{state_of};
-ghost use Rattle.waits.specs.Rows.{row_size};
-ghost use Rattle.step.specs.Views.{seen_of, outcome_of};
-ghost use Rattle.node.specs.Calls.{own, open_of, deliver_of};
+ghost use Rattle.step.specs.Views.{outcome_of};
+ghost use Rattle.node.specs.Calls.{open_of, deliver_of};
 
-use crate::refusals::{check_deliver, check_open};
+use crate::told::Told;
 use nodes::{Node, Round, Set};
 use records::{Message, Record};
-use step::{Own, Stepped, open_round, receive, still};
-use waits::row_at;
-
-// What the controller sees of the graph.
-fn seen(me: Node, row: &[u64], ins: Set) -> Own
-    requires { length row.now ≡ row_size }
-    ensures { seen_of result ≡ own me.0 row.now (num ins) }
-{
-    Own {
-        me,
-        row: row_at(row, Node(0)),
-        ins,
-    }
-}
+use step::{Stepped, open_round, receive, still};
 
 // The controller opens a round.
 #[tactic(auto, using(crate::proofs::Refused::open_accepted), unfolding(crate::specs::Calls::open_of))]
 pub fn open(nodes: usize, me: Node, row: &[u64], ins: Set, kept: Record, round: Round) -> Stepped
     ensures { outcome_of result ≡ open_of nodes me.0 row.now (num ins) (state_of kept) round.0 }
 {
-    match check_open(nodes, me, row, ins, kept, round) {
-        Ok(()) => open_round(seen(me, row, ins), round),
+    let told = Told {
+        nodes,
+        me,
+        row,
+        ins,
+        kept,
+    };
+    match told.check_open(round) {
+        Ok(()) => open_round(told.own(), round),
         Err(r) => still(kept, Err(r)),
     }
 }
@@ -47,8 +40,15 @@ pub fn deliver(
 ) -> Stepped
     ensures { outcome_of result ≡ deliver_of nodes me.0 row.now (num ins) (state_of kept) message }
 {
-    match check_deliver(nodes, me, row, ins, kept, message) {
-        Ok(()) => receive(seen(me, row, ins), kept, message),
+    let told = Told {
+        nodes,
+        me,
+        row,
+        ins,
+        kept,
+    };
+    match told.check_deliver(message) {
+        Ok(()) => receive(told.own(), kept, message.letter()),
         Err(r) => still(kept, Err(r)),
     }
 }

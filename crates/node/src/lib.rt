@@ -3,5 +3,6 @@
 
 mod calls;
 mod refusals;
+mod told;
 
 pub use calls::{deliver, open};

@@ -4,6 +4,7 @@ use Rattle.nodes.specs.Sets.{no_node}
 use Rattle.records.specs.declared.messages.Kind.{Kind}
 use Rattle.records.specs.declared.messages.Kind.TheVariants.{Notify, Grant, Ack, Done}
 use Rattle.records.specs.declared.messages.Message.{Message}
+use Rattle.records.specs.declared.letters.Letter.{Letter as Accepted}
 use Rattle.records.specs.Rounds.{no_round}
 
 -- the kind of a number: 0 NOTIFY, 1 GRANT, 2 ACK, 3 DONE; there are no others
@@ -32,6 +33,10 @@ pub record Letter : Type 0 where
 
 abbrev pub letter_of : Message → Letter
 letter_of m = record { kind = kind_of m.kind; from = m.from.0; to = m.to.0; round = m.round.0 }
+
+-- what one says that is accepted
+abbrev pub said_by : Accepted → Letter
+said_by m = record { kind = m.kind; from = m.from.0; to = m.to.0; round = m.round.0 }
 
 -- 13, of a message: its kind, its sender, its receiver or its round doesn't exist
 unfoldable pub strange_message : ℕ → Message → Bool

@@ -2,11 +2,13 @@
 #![tactic(auto)]
 
 mod causes;
+mod letters;
 mod messages;
 mod records;
 mod rounds;
 
 pub use causes::{Cause, Why};
-pub use messages::{Kind, Message, kind_of, strange_message};
-pub use records::{Record, blank, had, in_round, mark, strange_record, strange_set};
+pub use letters::Letter;
+pub use messages::{Kind, Message, kind_of};
+pub use records::{Record, strange_set};
 pub use rounds::{LAST, ahead, behind, cannot_open, no_round};

@@ -37,10 +37,12 @@ pub fn kind_of(number: u64) -> Kind
     }
 }
 
-// Number 13, of a message.
-#[tactic(auto, unfolding(crate::specs::Messages::strange_message, nodes::specs::Sets::no_node))]
-pub fn strange_message(nodes: usize, m: Message) -> bool
-    ensures { result ≡ strange_message nodes m }
-{
-    KINDS <= m.kind || nodes <= m.from.0 || nodes <= m.to.0 || no_round(m.round)
+impl Message {
+    // Number 13, of a message.
+    #[tactic(auto, unfolding(crate::specs::Messages::strange_message, nodes::specs::Sets::no_node))]
+    pub fn strange(self, nodes: usize) -> bool
+        ensures { result ≡ strange_message nodes self }
+    {
+        KINDS <= self.kind || nodes <= self.from.0 || nodes <= self.to.0 || no_round(self.round)
+    }
 }

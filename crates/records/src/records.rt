@@ -22,55 +22,78 @@ pub struct Record {
     pub done: Set,
 }
 
-pub fn blank(round: Round) -> Record
-    ensures { state_of result ≡ blank_of round.0 }
-{
-    let nobody = Set::empty();
-    Record {
-        round,
-        call: Cause(0),
-        freed: Cause(0),
-        notify: nobody,
-        grant: nobody,
-        ack: nobody,
-        done: nobody,
+impl Record {
+    pub fn blank(round: Round) -> Record
+        ensures { state_of result ≡ blank_of round.0 }
+    {
+        let nobody = Set::empty();
+        Record {
+            round,
+            call: Cause(0),
+            freed: Cause(0),
+            notify: nobody,
+            grant: nobody,
+            ack: nobody,
+            done: nobody,
+        }
     }
-}
 
-// The record as it stands in a round: blank if it has not come there yet.
-#[tactic(auto, unfolding(crate::specs::Records::in_round))]
-pub fn in_round(r: Record, round: Round) -> Record
-    ensures { state_of result ≡ in_round round.0 (state_of r) }
-{
-    if ahead(round, r.round) {
-        return blank(round);
+    // The record as it stands in a round: blank if it has not come there yet.
+    #[tactic(auto, unfolding(crate::specs::Records::in_round))]
+    pub fn in_round(self, round: Round) -> Record
+        ensures { state_of result ≡ in_round round.0 (state_of self) }
+    {
+        if ahead(round, self.round) {
+            return Record::blank(round);
+        }
+        self
     }
-    r
-}
 
-// Whose messages of a kind the node has had.
-pub fn had(r: Record, kind: Kind) -> Set
-    ensures { num result ≡ had_of kind (state_of r) }
-{
-    match kind {
-        Kind::Notify => r.notify,
-        Kind::Grant => r.grant,
-        Kind::Ack => r.ack,
-        Kind::Done => r.done,
+    // Whose messages of a kind the node has had.
+    pub fn had(self, kind: Kind) -> Set
+        ensures { num result ≡ had_of kind (state_of self) }
+    {
+        match kind {
+            Kind::Notify => self.notify,
+            Kind::Grant => self.grant,
+            Kind::Ack => self.ack,
+            Kind::Done => self.done,
+        }
     }
-}
 
-// The record with one more sender had.
-pub fn mark(r: Record, kind: Kind, from: Node) -> Record
-    requires { from.0 < places }
-    ensures { state_of result ≡ mark_of kind from.0 (state_of r) }
-{
-    let more = had(r, kind).with(from);
-    match kind {
-        Kind::Notify => Record { notify: more, ..r },
-        Kind::Grant => Record { grant: more, ..r },
-        Kind::Ack => Record { ack: more, ..r },
-        Kind::Done => Record { done: more, ..r },
+    // The record with one more sender had.
+    pub fn mark(self, kind: Kind, from: Node) -> Record
+        requires { from.0 < places }
+        ensures { state_of result ≡ mark_of kind from.0 (state_of self) }
+    {
+        let more = self.had(kind).with(from);
+        match kind {
+            Kind::Notify => Record {
+                notify: more,
+                ..self
+            },
+            Kind::Grant => Record {
+                grant: more,
+                ..self
+            },
+            Kind::Ack => Record { ack: more, ..self },
+            Kind::Done => Record { done: more, ..self },
+        }
+    }
+
+    // Number 13, of a record.
+    #[tactic(auto, unfolding(crate::specs::Records::strange_record))]
+    pub fn strange(self, nodes: usize) -> bool
+        requires { nodes ≤ places }
+        ensures { result ≡ strange_record nodes (state_of self) }
+    {
+        let all = self
+            .notify
+            .union(self.grant.union(self.ack.union(self.done)));
+        LAST < self.round.0
+            || self.call.strange(nodes)
+            || self.freed.strange(nodes)
+            || strange_set(nodes, all)
     }
 }
 
@@ -81,14 +104,4 @@ pub fn strange_set(nodes: usize, s: Set) -> bool
     ensures { result ≡ strange_set nodes (num s) }
 {
     !s.inside(Set::below(nodes))
-}
-
-// Number 13, of a record.
-#[tactic(auto, unfolding(crate::specs::Records::strange_record))]
-pub fn strange_record(nodes: usize, r: Record) -> bool
-    requires { nodes ≤ places }
-    ensures { result ≡ strange_record nodes (state_of r) }
-{
-    let all = r.notify.union(r.grant.union(r.ack.union(r.done)));
-    LAST < r.round.0 || r.call.strange(nodes) || r.freed.strange(nodes) || strange_set(nodes, all)
 }

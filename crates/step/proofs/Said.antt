@@ -24,5 +24,5 @@ seen_as me e f = ap₂ (seen_by me) e f
 pub opened_as : (round : ℕ) {o p : Seen} {x : Outcome} → x ≡ open_round o round → o ≡ p → x ≡ open_round p round
 opened_as round e f = e ∙ ap (λ (y : Seen). open_round y round) f
 
-pub received_as : (m : Letter) {o p : Seen} {s t : State} {x : Outcome} → x ≡ receive o s m → o ≡ p → s ≡ t → x ≡ receive p t m
-received_as m e f g = e ∙ ap₂ (λ (y : Seen) (z : State). receive y z m) f g
+pub received_as : {m n : Letter} {o p : Seen} {s t : State} {x : Outcome} → x ≡ receive o s m → o ≡ p → s ≡ t → m ≡ n → x ≡ receive p t n
+received_as e f g h = e ∙ (λ i. receive (f i) (g i) (h i))

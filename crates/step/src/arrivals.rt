@@ -1,18 +1,15 @@
 // A round is opened, or a message arrives: what a node does when nothing is refused.
-ghost use Rattle.std.specs.Prelude.{◌≡◌, ◌<◌};
-ghost use Rattle.nodes.specs.Words.{num, places};
+ghost use Rattle.std.specs.Prelude.{◌≡◌};
 ghost use Rattle.records.specs.Records.{state_of, Fitting};
-ghost use Rattle.records.specs.Messages.{letter_of};
-ghost use Rattle.step.specs.Step.{neighbours as neighbours_of, expects as expects_of, stray as stray_of};
-ghost use Rattle.step.specs.Step.{saying as saying_of, open_round, take as take_of, arrive as arrive_of, receive as receive_of};
+ghost use Rattle.records.specs.Messages.{said_by};
+ghost use Rattle.step.specs.Step.{expects as expects_of, stray as stray_of, saying as saying_of, open_round, receive as receive_of};
 ghost use Rattle.step.specs.Views.{seen_of, end_of, outcome_of};
 
 use crate::answers::{Answer, Stepped, still};
 use crate::awaited::Own;
 use crate::steps::{End, be_called, react, settle};
-use nodes::{Round, Set};
-use records::{Cause, Kind, Message, Record, behind, blank, had, in_round, kind_of, mark};
-use waits::out_of;
+use nodes::Round;
+use records::{Cause, Kind, Letter, Record, behind};
 
 // What is handed back at the end of a step.
 fn saying(end: End, answer: Answer) -> Stepped
@@ -26,23 +23,13 @@ fn saying(end: End, answer: Answer) -> Stepped
 }
 
 // Opens a round that isn't refused.
-#[tactic(auto, unfolding(crate::specs::Step::open_round))]
+#[tactic(auto, using(crate::proofs::Fits::open_fits), unfolding(crate::specs::Step::open_round))]
 pub fn open_round(own: Own, round: Round) -> Stepped
     ensures { outcome_of result ≡ open_round (seen_of own) round.0 }
 {
-    let before = blank(round);
+    let before = Record::blank(round);
     let end = settle(own, before, be_called(own, Cause::itself(), before));
     saying(end, Answer::Opened(end.verdict))
-}
-
-// Who may send a node messages of a kind.
-fn neighbours(own: Own, kind: Kind) -> Set
-    ensures { num result ≡ neighbours_of (seen_of own) kind }
-{
-    match kind {
-        Kind::Notify | Kind::Ack => own.ins,
-        Kind::Grant | Kind::Done => out_of(own.row),
-    }
 }
 
 // Whether a message of a kind can answer what this node sent.
@@ -58,48 +45,29 @@ fn expects(r: Record, kind: Kind) -> bool
 
 // Whether a message doesn't fit the graph, or the record in the message's round.
 #[tactic(auto, unfolding(crate::specs::Step::stray))]
-fn stray(own: Own, r: Record, m: Message) -> bool
-    ensures { result ≡ stray_of (seen_of own) (state_of r) (letter_of m) }
+fn stray(own: Own, r: Record, m: Letter) -> bool
+    ensures { result ≡ stray_of (seen_of own) (state_of r) (said_by m) }
 {
-    let kind = kind_of(m.kind);
-    m.to != own.me || !neighbours(own, kind).has(m.from) || !expects(r, kind)
+    m.to != own.me || !own.neighbours(m.kind).has(m.from) || !expects(r, m.kind)
 }
 
-// Takes a message that was not had before.
-#[tactic(auto, unfolding(crate::specs::Step::take))]
-fn take(own: Own, r: Record, m: Message) -> Stepped
-    requires { (m.from.0 < places) × Fitting (state_of r) }
-    ensures { outcome_of result ≡ take_of (seen_of own) (state_of r) (letter_of m) }
-{
-    let kind = kind_of(m.kind);
-    let did = react(own, kind, m.from, mark(r, kind, m.from));
-    let end = settle(own, r, did);
-    saying(end, Answer::Taken(end.verdict))
-}
-
-// A message that isn't old: the record as it was, and as it stands in the message's round.
-#[tactic(auto, unfolding(crate::specs::Step::arrive))]
-fn arrive(own: Own, was: Record, r: Record, m: Message) -> Stepped
-    requires { (m.from.0 < places) × Fitting (state_of r) }
-    ensures { outcome_of result ≡ arrive_of (seen_of own) (state_of was) (state_of r) (letter_of m) }
-{
-    if stray(own, r, m) {
-        return still(was, Ok(Answer::Stray));
-    }
-    if had(r, kind_of(m.kind)).has(m.from) {
-        return still(was, Ok(Answer::Repeat));
-    }
-    take(own, r, m)
-}
-
-// Receives a message that isn't refused.
-#[tactic(auto, unfolding(crate::specs::Step::receive))]
-pub fn receive(own: Own, r: Record, m: Message) -> Stepped
-    requires { (m.from.0 < places) × Fitting (state_of r) }
-    ensures { outcome_of result ≡ receive_of (seen_of own) (state_of r) (letter_of m) }
+// Receives a message that isn't refused: it is old, stray, a repeat or taken, the first that fits.
+#[tactic(auto, using(crate::proofs::Fits::take_fits), unfolding(crate::specs::Step::receive, crate::specs::Step::arrive, crate::specs::Step::take))]
+pub fn receive(own: Own, r: Record, m: Letter) -> Stepped
+    requires { Fitting (state_of r) }
+    ensures { outcome_of result ≡ receive_of (seen_of own) (state_of r) (said_by m) }
 {
     if behind(m.round, r.round) {
         return still(r, Ok(Answer::Old));
     }
-    arrive(own, r, in_round(r, m.round), m)
+    let before = r.in_round(m.round);
+    if stray(own, before, m) {
+        return still(r, Ok(Answer::Stray));
+    }
+    if before.had(m.kind).has(m.from) {
+        return still(r, Ok(Answer::Repeat));
+    }
+    let did = react(own, m, before.mark(m.kind, m.from));
+    let end = settle(own, before, did);
+    saying(end, Answer::Taken(end.verdict))
 }

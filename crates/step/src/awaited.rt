@@ -3,11 +3,12 @@ ghost use Rattle.std.specs.Prelude.{◌≡◌};
 ghost use Rattle.nodes.specs.Words.{num};
 ghost use Rattle.records.specs.Causes.{why_of, Fits};
 ghost use Rattle.records.specs.Records.{state_of};
-ghost use Rattle.step.specs.Step.{active as active_of, acked as acked_of, complete as complete_of, newly as newly_of, owed as owed_of};
+ghost use Rattle.step.specs.Step.{neighbours as neighbours_of, active as active_of, acked as acked_of, complete as complete_of};
+ghost use Rattle.step.specs.Step.{frees as frees_of, newly as newly_of, owed as owed_of};
 ghost use Rattle.step.specs.Views.{seen_of};
 
 use nodes::{Node, Set};
-use records::{Cause, Record};
+use records::{Cause, Kind, Record};
 use waits::{Row, holds, out_of};
 
 #[derive(Clone, Copy, Debug, PartialEq, Eq)]
@@ -17,27 +18,48 @@ pub struct Own {
     pub ins: Set,
 }
 
-// Whether the node's condition holds with nobody granting.
-pub fn active(own: Own) -> bool
-    ensures { result ≡ active_of (seen_of own) }
-{
-    holds(own.row, Set::empty())
-}
+impl Own {
+    // Who may send a node messages of a kind.
+    pub(crate) fn neighbours(self, kind: Kind) -> Set
+        ensures { num result ≡ neighbours_of (seen_of self) kind }
+    {
+        match kind {
+            Kind::Notify | Kind::Ack => self.ins,
+            Kind::Grant | Kind::Done => out_of(self.row),
+        }
+    }
 
-// Whether ACK is in from all IN of a free node.
-#[tactic(auto, unfolding(crate::specs::Step::acked))]
-pub fn acked(own: Own, r: Record) -> bool
-    ensures { result ≡ acked_of (seen_of own) (state_of r) }
-{
-    r.freed.happened() && own.ins.inside(r.ack)
-}
+    // Whether the node's condition holds with nobody granting.
+    pub(crate) fn active(self) -> bool
+        ensures { result ≡ active_of (seen_of self) }
+    {
+        holds(self.row, Set::empty())
+    }
 
-// Whether all is in that a called node awaits.
-#[tactic(auto, unfolding(crate::specs::Step::complete))]
-pub fn complete(own: Own, r: Record) -> bool
-    ensures { result ≡ complete_of (seen_of own) (state_of r) }
-{
-    r.call.happened() && out_of(own.row).inside(r.done) && (!active(own) || own.ins.inside(r.ack))
+    // Whether ACK is in from all IN of a free node.
+    #[tactic(auto, unfolding(crate::specs::Step::acked))]
+    pub(crate) fn acked(self, r: Record) -> bool
+        ensures { result ≡ acked_of (seen_of self) (state_of r) }
+    {
+        r.freed.happened() && self.ins.inside(r.ack)
+    }
+
+    // Whether all is in that a called node awaits.
+    #[tactic(auto, unfolding(crate::specs::Step::complete))]
+    pub(crate) fn complete(self, r: Record) -> bool
+        ensures { result ≡ complete_of (seen_of self) (state_of r) }
+    {
+        r.call.happened()
+            && out_of(self.row).inside(r.done)
+            && (!self.active() || self.ins.inside(r.ack))
+    }
+
+    // Whether a node that wasn't free has its condition met.
+    pub(crate) fn frees(self, r: Record) -> bool
+        ensures { result ≡ frees_of (seen_of self) (state_of r) }
+    {
+        !r.freed.happened() && holds(self.row, r.grant)
+    }
 }
 
 // Whether something came about in a step.

@@ -1,18 +1,17 @@
 // What a node does when it is called, becomes free, or takes a message.
-ghost use Rattle.std.specs.Prelude.{◌≡◌, ◌<◌};
-ghost use Rattle.nodes.specs.Words.{places};
+ghost use Rattle.std.specs.Prelude.{◌≡◌};
 ghost use Rattle.records.specs.Causes.{why_of};
 ghost use Rattle.records.specs.Records.{state_of, Fitting};
-ghost use Rattle.step.specs.Step.{become_free, be_called, answer_with, on_notify, frees as frees_of, on_grant};
+ghost use Rattle.step.specs.Step.{become_free, be_called, answer_with, on_notify, on_grant};
 ghost use Rattle.step.specs.Step.{react as react_of, verdict_of, settle as settle_of};
 ghost use Rattle.step.specs.Views.{seen_of, move_of, end_of};
 
 use crate::answers::Verdict;
-use crate::awaited::{Own, acked, active, complete, newly, owed};
+use crate::awaited::{Own, newly, owed};
 use crate::sends::{Sends, nobody, send};
-use nodes::{Node, Set};
-use records::{Cause, Kind, Record};
-use waits::{holds, out_of};
+use nodes::Set;
+use records::{Cause, Kind, Letter, Record};
+use waits::out_of;
 
 // What a step has done so far.
 #[derive(Clone, Copy)]
@@ -44,7 +43,7 @@ pub fn be_called(own: Own, by: Cause, r: Record) -> Did
     ensures { move_of result ≡ be_called (seen_of own) (why_of by.0) (state_of r) }
 {
     let called = Record { call: by, ..r };
-    if !active(own) {
+    if !own.active() {
         return Did {
             state: called,
             sends: send(Kind::Notify, out_of(own.row)),
@@ -59,55 +58,44 @@ pub fn be_called(own: Own, by: Cause, r: Record) -> Did
     become_free(own, Cause::itself(), called)
 }
 
-// An answer that goes at once.
+// An answer to a message's sender that goes at once.
 #[tactic(auto, using(nodes::proofs::Operations::with_empty))]
-fn answer_with(kind: Kind, to: Node, r: Record) -> Did
-    requires { to.0 < places }
-    ensures { move_of result ≡ answer_with kind to.0 (state_of r) }
+fn answer_with(kind: Kind, m: Letter, r: Record) -> Did
+    ensures { move_of result ≡ answer_with kind m.from.0 (state_of r) }
 {
     Did {
         state: r,
-        sends: send(kind, Set::empty().with(to)),
+        sends: send(kind, Set::empty().with(m.from)),
     }
 }
 
 #[tactic(auto, unfolding(crate::specs::Step::on_notify))]
-fn on_notify(own: Own, from: Node, r: Record) -> Did
-    requires { from.0 < places }
-    ensures { move_of result ≡ on_notify (seen_of own) from.0 (state_of r) }
+fn on_notify(own: Own, m: Letter, r: Record) -> Did
+    ensures { move_of result ≡ on_notify (seen_of own) m.from.0 (state_of r) }
 {
     if r.call.happened() {
-        return answer_with(Kind::Done, from, r);
+        return answer_with(Kind::Done, m, r);
     }
-    be_called(own, Cause::by(from), r)
-}
-
-// Whether a node that wasn't free has its condition met.
-fn frees(own: Own, r: Record) -> bool
-    ensures { result ≡ frees_of (seen_of own) (state_of r) }
-{
-    !r.freed.happened() && holds(own.row, r.grant)
+    be_called(own, Cause::by(m.from), r)
 }
 
 #[tactic(auto, unfolding(crate::specs::Step::on_grant))]
-fn on_grant(own: Own, from: Node, r: Record) -> Did
-    requires { from.0 < places }
-    ensures { move_of result ≡ on_grant (seen_of own) from.0 (state_of r) }
+fn on_grant(own: Own, m: Letter, r: Record) -> Did
+    ensures { move_of result ≡ on_grant (seen_of own) m.from.0 (state_of r) }
 {
-    if frees(own, r) {
-        return become_free(own, Cause::by(from), r);
+    if own.frees(r) {
+        return become_free(own, Cause::by(m.from), r);
     }
-    answer_with(Kind::Ack, from, r)
+    answer_with(Kind::Ack, m, r)
 }
 
 // What a message does that was not had before; its sender is marked already.
-pub fn react(own: Own, kind: Kind, from: Node, r: Record) -> Did
-    requires { from.0 < places }
-    ensures { move_of result ≡ react_of (seen_of own) from.0 (state_of r) kind }
+pub fn react(own: Own, m: Letter, r: Record) -> Did
+    ensures { move_of result ≡ react_of (seen_of own) m.from.0 (state_of r) m.kind }
 {
-    match kind {
-        Kind::Notify => on_notify(own, from, r),
-        Kind::Grant => on_grant(own, from, r),
+    match m.kind {
+        Kind::Notify => on_notify(own, m, r),
+        Kind::Grant => on_grant(own, m, r),
         Kind::Ack | Kind::Done => Did {
             state: r,
             sends: nobody(),
@@ -137,8 +125,8 @@ pub fn settle(own: Own, before: Record, did: Did) -> End
 {
     let after = did.state;
     let sends = did.sends;
-    let free = newly(acked(own, before), acked(own, after));
-    let ended = newly(complete(own, before), complete(own, after));
+    let free = newly(own.acked(before), own.acked(after));
+    let ended = newly(own.complete(before), own.complete(after));
     let freer = owed(free, after.freed);
     let caller = owed(ended, after.call);
     End {
