@@ -7,14 +7,16 @@ ghost use Rattle.std.specs.Prelude.{◌≤◌, length};
 use reasons::{reasons, words_room};
 use report::{file_room, report, text_room};
 use streams::answer_input;
-use text::bytes;
+use text::Text;
 
 // Only a graph in which nobody is deadlocked has an empty answer.
 fn explain(file: &[u8], end: usize, words: &mut [u8]) -> usize
     ensures { result ≤ length words.new }
 {
     if end == 0 {
-        return bytes(words, 0, b"nobody is deadlocked\n");
+        let mut out = Text::new(words);
+        out.bytes(b"nobody is deadlocked\n");
+        return out.end;
     }
     reasons(file, words)
 }
