@@ -1,14 +1,11 @@
 -- `play` meets its contract. Assumes nothing.
-use mathlib.Core.Path.{◌≡◌, ap, refl}
+use mathlib.Core.Path.{◌≡◌, refl, ap}
 use Prim.Native.Nat.{◌+◌, ◌-◌, ℕ}
 use native.Mathlib.Omega.{arith}
 use lib.ListN.{drop, take}
 use Rattle.text.proofs.Writing.{wrote_as}
-use Rattle.transcript.proofs.Settle.{first_fit, first_length, played_as}
+use Rattle.transcript.proofs.Settle.{first_fit, played_as}
 use Rattle.transcript.proofs.play.Goals as goal
-
-pub slice_bounds-begin-end-4 : goal.slice_bounds-begin-end-4
-slice_bounds-begin-end-4 c = first_length _ _ c.requires.2
 
 pub begin-ran-requires : goal.begin-ran-requires
 begin-ran-requires c = (c.records_room-records.ensures, refl, c.requires.1, first_fit _ _ _ c.requires.2 c.requires.3)
