@@ -24,7 +24,6 @@ pub fn room(lent: usize) -> usize
 
 #[tactic(auto, unfolding(crate::specs::Strange::strange_record_on))]
 fn strange_record_on(nodes: usize, highest: Round, r: Record) -> bool
-    requires { nodes ≤ places }
     ensures { result ≡ strange_record_on nodes highest.0 (state_of r) }
 {
     r.strange(nodes) || ahead(r.round, highest)
@@ -39,7 +38,7 @@ fn strange_message_on(nodes: usize, highest: Round, m: Message) -> bool
 
 #[tactic(auto, using(crate::proofs::Made::record_found, crate::proofs::Made::record_passed, crate::proofs::Made::records_passed))]
 fn strange_records(nodes: usize, records: &[u64], highest: Round) -> bool
-    requires { (nodes ≤ places) × (length records.now ≡ nodes * record_size) }
+    requires { length records.now ≡ nodes * record_size }
     ensures { result ≡ strange_records nodes highest.0 records.now }
 {
     for i in 0..nodes {

@@ -43,7 +43,6 @@ impl<'a> Told<'a> {
     // Number 13, of a record and IN.
     #[tactic(auto, unfolding(crate::specs::Refusals::strange_kept))]
     fn strange_kept(&self) -> bool
-        requires { self.now.nodes ≤ places }
         ensures { result ≡ strange_kept self.now.nodes (state_of self.now.kept) (num self.now.ins) }
     {
         self.kept.strange(self.nodes) || strange_set(self.nodes, self.ins)

@@ -84,7 +84,6 @@ impl Record {
     // Number 13, of a record.
     #[tactic(auto, unfolding(crate::specs::Records::strange_record))]
     pub fn strange(self, nodes: usize) -> bool
-        requires { nodes ≤ places }
         ensures { result ≡ strange_record nodes (state_of self) }
     {
         let all = self
@@ -100,8 +99,7 @@ impl Record {
 // Whether a set names a node that isn't there.
 #[tactic(auto, unfolding(crate::specs::Records::strange_set))]
 pub fn strange_set(nodes: usize, s: Set) -> bool
-    requires { nodes ≤ places }
     ensures { result ≡ strange_set nodes (num s) }
 {
-    !s.inside(Set::below(nodes))
+    !s.among(nodes)
 }
