@@ -6,6 +6,7 @@ ghost use Rattle.bench.specs.AtWork.{state_at_work, GoodAtWork, SameLists};
 ghost use Rattle.bench.specs.Steps.{step_on};
 ghost use Rattle.bench.specs.Runs.{run_on, answers_on, run_of};
 ghost use Rattle.bench.specs.Runs.{run as the_run};
+ghost use Rattle.bench.specs.Replies.{refused, refused_list};
 
 use crate::checks::strange_bench;
 use crate::steps::{AtWork, Reply, refuse};
@@ -19,6 +20,26 @@ pub struct Ran {
     pub sent: usize,
     pub highest: Round,
     pub checked: Result<(), Refusal>,
+}
+
+fn refuse_step(reason: Reason, sent: usize, highest: Round) -> Reply
+    ensures { result ≡ refused reason sent highest }
+{
+    Reply {
+        sent,
+        highest,
+        answer: refuse(reason),
+    }
+}
+
+fn refuse_list(reason: Reason, sent: usize, highest: Round) -> Ran
+    ensures { result ≡ refused_list reason sent highest }
+{
+    Ran {
+        sent,
+        highest,
+        checked: refused(reason, Node(0)),
+    }
 }
 
 // One step by itself.
@@ -35,11 +56,7 @@ pub fn step(
     ensures { after (bench records.new messages.new result.sent result.highest.0) result.answer ≡ step_on nodes rows.now (bench records.old messages.old sent highest.0) s }
 {
     if strange_bench(nodes, rows, records, messages, sent, highest) {
-        return Reply {
-            sent,
-            highest,
-            answer: refuse(Reason::StrangeState),
-        };
+        return refuse_step(Reason::StrangeState, sent, highest);
     }
     let graph = Graph::new(nodes, rows);
     let mut bench = AtWork {
@@ -84,18 +101,10 @@ pub fn run(
     ensures { the_run (bench records.new messages.new result.sent result.highest.0) answers.new result.checked ≡ run_of nodes rows.now (bench records.old messages.old sent highest.0) steps.now answers.old }
 {
     if strange_bench(nodes, rows, records, messages, sent, highest) {
-        return Ran {
-            sent,
-            highest,
-            checked: refused(Reason::StrangeState, Node(0)),
-        };
+        return refuse_list(Reason::StrangeState, sent, highest);
     }
     if answers.len() < steps.len() {
-        return Ran {
-            sent,
-            highest,
-            checked: refused(Reason::ShortRoom, Node(0)),
-        };
+        return refuse_list(Reason::ShortRoom, sent, highest);
     }
     let graph = Graph::new(nodes, rows);
     let mut bench = AtWork {
