@@ -106,7 +106,7 @@ impl<'a> AtWork<'a> {
         ensures same_lists { SameLists self.old self.new }
         ensures arrived { after (state_at_work self.new) result ≡ arrive_at (waits_at self.old) (state_at_work self.old) (letter_of m) }
     {
-        let did = receive(self.own(m.to), self.record(m.to), m.letter());
+        let did = receive(self.own(m.to), self.record(m.to), m);
         let highest = self.highest;
         self.join(highest, m.to, did)
     }

@@ -48,7 +48,7 @@ pub fn deliver(
         kept,
     };
     match told.check_deliver(message) {
-        Ok(()) => receive(told.own(), kept, message.letter()),
+        Ok(()) => receive(told.own(), kept, message),
         Err(r) => still(kept, Err(r)),
     }
 }

@@ -1,7 +1,8 @@
 // A round is opened, or a message arrives: what a node does when nothing is refused.
-ghost use Rattle.std.specs.Prelude.{◌≡◌};
+ghost use Rattle.std.specs.Prelude.{◌≡◌, ◌<◌};
+ghost use Rattle.nodes.specs.Words.{places};
 ghost use Rattle.records.specs.Records.{state_of, Fitting};
-ghost use Rattle.records.specs.Messages.{said_by};
+ghost use Rattle.records.specs.Messages.{letter_of, said_by};
 ghost use Rattle.step.specs.Step.{expects as expects_of, stray as stray_of, saying as saying_of, open_round, receive as receive_of};
 ghost use Rattle.step.specs.Views.{seen_of, end_of, outcome_of};
 
@@ -9,7 +10,7 @@ use crate::answers::{Answer, Stepped, still};
 use crate::awaited::Own;
 use crate::steps::{End, be_called, react, settle};
 use nodes::Round;
-use records::{Cause, Kind, Letter, Record, behind};
+use records::{Cause, Kind, Letter, Message, Record, behind};
 
 // What is handed back at the end of a step.
 fn saying(end: End, answer: Answer) -> Stepped
@@ -51,9 +52,9 @@ fn stray(own: Own, r: Record, m: Letter) -> bool
     m.to != own.me || !own.neighbours(m.kind).has(m.from) || !expects(r, m.kind)
 }
 
-// Receives a message that isn't refused: it is old, stray, a repeat or taken, the first that fits.
+// Receives an accepted message: it is old, stray, a repeat or taken, the first that fits.
 #[tactic(auto, using(crate::proofs::Fits::take_fits), unfolding(crate::specs::Step::receive, crate::specs::Step::arrive, crate::specs::Step::take))]
-pub fn receive(own: Own, r: Record, m: Letter) -> Stepped
+fn receive_letter(own: Own, r: Record, m: Letter) -> Stepped
     requires { Fitting (state_of r) }
     ensures { outcome_of result ≡ receive_of (seen_of own) (state_of r) (said_by m) }
 {
@@ -70,4 +71,12 @@ pub fn receive(own: Own, r: Record, m: Letter) -> Stepped
     let did = react(own, m, before.mark(m.kind, m.from));
     let end = settle(own, before, did);
     saying(end, Answer::Taken(end.verdict))
+}
+
+// Receives a message that isn't refused.
+pub fn receive(own: Own, r: Record, m: Message) -> Stepped
+    requires { (m.from.0 < places) × Fitting (state_of r) }
+    ensures { outcome_of result ≡ receive_of (seen_of own) (state_of r) (letter_of m) }
+{
+    receive_letter(own, r, m.letter())
 }
