@@ -20,7 +20,7 @@ pub trait Visit {
 
 // Every node visited in turn.
 #[tactic(auto, using(crate::proofs::Sweeps::visiting))]
-fn sweep<V: Visit + Copy>(graph: Graph, by: V, from: Set) -> Set
+pub fn sweep<V: Visit + Copy>(graph: Graph, by: V, from: Set) -> Set
     ensures { num result ≡ sweep_of (V.by by (graph_of graph.entry)) graph.entry.nodes (num from) }
 {
     let mut g = from;
