@@ -5,7 +5,7 @@ ghost use Rattle.waits.specs.Graph.{GraphSays};
 ghost use Rattle.deadlock.specs.Refusals.{strange_entry, check_node_of, check_list_of, check_room_of};
 
 use nodes::Node;
-use waits::{Graph, Reason, Refusal};
+use waits::{Graph, Reason, Refusal, refused_if};
 
 // The node that an entry of a list names.
 pub fn named(entry: u8) -> Node
@@ -14,25 +14,13 @@ pub fn named(entry: u8) -> Node
     Node(entry as usize)
 }
 
-// The refusal for a reason that is not of a row.
-fn of_no_row(reason: Reason) -> Refusal
-    ensures { result ≡ record { reason = reason; row = record { 0 = 0 } } }
-{
-    Refusal {
-        reason,
-        row: Node(0),
-    }
-}
-
 // A question about node i: the graph, then 9.
 #[tactic(auto, using(crate::proofs::Refused::node_check))]
 pub fn check_node(nodes: usize, rows: &[u64], i: Node) -> Result<Graph, Refusal>
     ensures { GraphSays (check_node_of nodes rows.now i.0) nodes rows.now result }
 {
     let graph = Graph::checked(nodes, rows)?;
-    if nodes <= i.0 {
-        return Err(of_no_row(Reason::NoNode));
-    }
+    refused_if(nodes <= i.0, Reason::NoNode, Node(0))?;
     Ok(graph)
 }
 
@@ -61,12 +49,8 @@ pub fn check_list<'a>(
     ensures { GraphSays (check_list_of nodes rows.now i.0 list.now) nodes rows.now result }
 {
     let graph = check_node(nodes, rows, i)?;
-    if strange_entry(nodes, list) {
-        return Err(of_no_row(Reason::StrangeEntry));
-    }
-    if !ascends(list) {
-        return Err(of_no_row(Reason::NotAscending));
-    }
+    refused_if(strange_entry(nodes, list), Reason::StrangeEntry, Node(0))?;
+    refused_if(!ascends(list), Reason::NotAscending, Node(0))?;
     Ok(graph)
 }
 
@@ -76,8 +60,6 @@ pub fn check_room(nodes: usize, rows: &[u64], i: Node, room: usize) -> Result<Gr
     ensures { GraphSays (check_room_of nodes rows.now i.0 room) nodes rows.now result }
 {
     let graph = check_node(nodes, rows, i)?;
-    if room < nodes {
-        return Err(of_no_row(Reason::ShortRoom));
-    }
+    refused_if(room < nodes, Reason::ShortRoom, Node(0))?;
     Ok(graph)
 }

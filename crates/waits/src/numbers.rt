@@ -6,7 +6,7 @@ ghost use Rattle.waits.specs.Numbers.{strange_count, wrong_count, wrong_threshol
 ghost use Rattle.waits.specs.Graph.{GraphSays};
 
 use crate::graph::Graph;
-use crate::refusals::{Reason, Refusal, refused};
+use crate::refusals::{Reason, Refusal, refused_if};
 use crate::rows::{ROW, Row, later, lies_in, out_of};
 use nodes::{Node, PLACES, Set};
 
@@ -83,25 +83,12 @@ pub fn check_row(nodes: usize, k: Node, row: Row) -> Result<(), Refusal>
 {
     let all = Set::below(nodes);
     let out = out_of(row);
-    if 2 < row.kind {
-        return refused(Reason::StrangeKind, k);
-    }
-    if !out.inside(all) {
-        return refused(Reason::StrangeMember, k);
-    }
-    if out.has(k) {
-        return refused(Reason::WaitsOnItself, k);
-    }
-    if wrong_threshold(row) {
-        return refused(Reason::WrongThreshold, k);
-    }
-    if extra_set(row) {
-        return refused(Reason::ExtraSet, k);
-    }
-    if bad_sets(row) {
-        return refused(Reason::BadSets, k);
-    }
-    Ok(())
+    refused_if(2 < row.kind, Reason::StrangeKind, k)?;
+    refused_if(!out.inside(all), Reason::StrangeMember, k)?;
+    refused_if(out.has(k), Reason::WaitsOnItself, k)?;
+    refused_if(wrong_threshold(row), Reason::WrongThreshold, k)?;
+    refused_if(extra_set(row), Reason::ExtraSet, k)?;
+    refused_if(bad_sets(row), Reason::BadSets, k)
 }
 
 // The first number that the graph gets, with its row.
@@ -109,18 +96,13 @@ pub fn check_row(nodes: usize, k: Node, row: Row) -> Result<(), Refusal>
 pub fn check(nodes: usize, rows: &[u64]) -> Result<(), Refusal>
     ensures { result ≡ check_of nodes rows.now }
 {
-    if wrong_count(nodes, rows.len()) {
-        return refused(Reason::WrongCount, Node(0));
-    }
+    refused_if(wrong_count(nodes, rows.len()), Reason::WrongCount, Node(0))?;
     let graph = Graph { nodes, rows };
     for k in 0..nodes {
         let row = graph.row(Node(k));
         check_row(nodes, Node(k), row)?;
     }
-    if EDGES < graph.edges() {
-        return refused(Reason::ManyEdges, Node(0));
-    }
-    Ok(())
+    refused_if(EDGES < graph.edges(), Reason::ManyEdges, Node(0))
 }
 
 impl<'a> Graph<'a> {

@@ -1,6 +1,6 @@
 // What a refusal says: a line of the paper's table, and the row that it is about.
-ghost use Rattle.std.specs.Prelude.{◌≡◌, Err};
-ghost use Rattle.waits.specs.Numbers.{reason_number};
+ghost use Rattle.std.specs.Prelude.{◌≡◌, [], ◌∷◌, Err};
+ghost use Rattle.waits.specs.Numbers.{line, first_said, reason_number};
 
 use nodes::Node;
 
@@ -45,4 +45,14 @@ pub fn refused(reason: Reason, row: Node) -> Result<(), Refusal>
     ensures { result ≡ Err (record { reason = reason; row = row }) }
 {
     Err(Refusal { reason, row })
+}
+
+// A line of the table: its refusal, if it says so.
+pub fn refused_if(says: bool, reason: Reason, row: Node) -> Result<(), Refusal>
+    ensures { result ≡ first_said (line reason row.0 says ∷ []) }
+{
+    if says {
+        return refused(reason, row);
+    }
+    Ok(())
 }
