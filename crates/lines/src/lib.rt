@@ -1,7 +1,7 @@
 // The lines that the programs answer with, written into lent bytes.
 #![tactic(auto)]
 
-ghost use Rattle.std.specs.Prelude.{◌≡◌, ◌≤◌, length, take};
+ghost use Rattle.std.specs.Prelude.{◌≡◌};
 ghost use Rattle.text.specs.Text.{Wrote};
 ghost use Rattle.lines.specs.Lines.{field as field_of, name_of, answer_line, answer_lines, kind_name, message_line, refused_line, no_script_line};
 
@@ -49,12 +49,11 @@ pub fn answer(out: &mut Text, x: u64)
     out.put(b'\n');
 }
 
-// The lines of the first answers of a list.
-pub fn answers(out: &mut Text, list: &[u64], count: usize)
-    requires { count ≤ length list.now }
-    ensures { Wrote out.old out.new (answer_lines (take count list.now)) }
+// The lines of a list of answers.
+pub fn answers(out: &mut Text, list: &[u64])
+    ensures { Wrote out.old out.new (answer_lines list.now) }
 {
-    for &x in &list[..count] {
+    for &x in list {
         answer(out, x);
     }
 }

@@ -27,7 +27,7 @@ fn ring(rt: &impl Print, nodes: usize, rows: &[u64], k: usize) -> io::Result<()>
 fn evidence(rt: &impl Print, nodes: usize, rows: &[u64], k: usize) -> io::Result<()> {
     let mut room = [0u8; PLACES];
     match deadlock::write_evidence(nodes, rows, Node(k), &mut room) {
-        Ok(count) => bytes(rt, &room, count),
+        Ok(count) => bytes(rt, &room[..count]),
         Err(r) => {
             print!(rt; " ")?;
             refusal(rt, r)

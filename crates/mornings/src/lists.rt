@@ -15,7 +15,7 @@ pub fn judged(
     list: &[u8],
 ) -> io::Result<()> {
     print!(rt; "list")?;
-    bytes(rt, list, list.len())?;
+    bytes(rt, list)?;
     about(rt, node)?;
     match deadlock::check_evidence(nodes, rows, Node(node), list) {
         Ok(Judged::Passes) => print!(rt; "passes")?,

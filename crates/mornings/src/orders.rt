@@ -77,7 +77,7 @@ fn ordered(rt: &impl Print, label: &str, order: &[u8]) -> io::Result<()> {
     end(rt, &records)?;
     callers(rt, &records)?;
     let mut out = Text::new(&mut room);
-    messages(&mut out, &sent, SENT);
+    messages(&mut out, &sent);
     let written = out.end;
     rt.write_all(&room[..written])
 }

@@ -8,12 +8,12 @@ pub fn about(rt: &impl Print, node: usize) -> io::Result<()> {
     print!(rt; " for {node}: ")
 }
 
-// The first bytes of a list as numbers, each after a space.
-pub fn bytes(rt: &impl Print, list: &[u8], count: usize) -> io::Result<()> {
-    for b in list.iter().take(count) {
+// Bytes as numbers, each after a space.
+pub fn bytes(rt: &impl Print, list: &[u8]) -> io::Result<()> {
+    for b in list {
         print!(rt; " {b}")?;
     }
-    if count == 0 {
+    if list.is_empty() {
         print!(rt; " none")?;
     }
     Ok(())

@@ -23,7 +23,7 @@ fn written(
         Err(r) => refusal(rt, r)?,
     }
     print!(rt; ", bytes")?;
-    bytes(rt, room, room.len())?;
+    bytes(rt, room)?;
     println!(rt)
 }
 

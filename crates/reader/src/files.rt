@@ -1,11 +1,11 @@
 // A file of waits, from its bytes to the graph that it says, or to what is wrong with it.
-ghost use Rattle.std.specs.Prelude.{◌≡◌, ◌*◌, length, drop, Err};
+ghost use Rattle.std.specs.Prelude.{◌≡◌, ◌*◌, drop, Err};
 ghost use Rattle.std.proofs.lemmas.List.Edits.{sets};
 ghost use Rattle.waits.specs.Rows.{row_size, row_numbers};
 ghost use Rattle.format.specs.Cut.{lines_of};
 ghost use Rattle.format.specs.Files.{rows_from, meant_by, read_of};
 ghost use Rattle.reader.specs.declared.files.Wrong.TheVariants.{Refused};
-ghost use Rattle.reader.specs.Answers.{numbers, LinesSay, graph_judged, file_said, told_as};
+ghost use Rattle.reader.specs.Answers.{LinesSay, graph_judged, file_said, told_as};
 
 use crate::lines::{header, row};
 use fields::line_end;
@@ -47,8 +47,8 @@ pub struct File {
 }
 
 // Stores the row of node k, if a graph can have so many. The lines behind it are still to be judged.
-fn keep(rows: &mut [u64], k: usize, row: Row)
-    requires { length rows.old ≡ numbers }
+#[tactic(auto, using(crate::proofs::Storing::kept_out))]
+fn keep(rows: &mut [u64; NUMBERS], k: usize, row: Row)
     ensures { rows.new ≡ sets rows.old (k * row_size) (row_numbers row) }
 {
     if k < PLACES {
@@ -57,8 +57,7 @@ fn keep(rows: &mut [u64], k: usize, row: Row)
 }
 
 // Reads the lines from a place on as rows, and stores them. Gives how many there are, or the line that breaks a rule.
-fn read_rows(file: &[u8], from: usize, rows: &mut [u64]) -> Result<usize, usize>
-    requires { length rows.old ≡ numbers }
+fn read_rows(file: &[u8], from: usize, rows: &mut [u64; NUMBERS]) -> Result<usize, usize>
     ensures { LinesSay (rows_from 0 (lines_of (drop from file.now))) rows.old rows.new result }
 {
     let mut at = from;
@@ -75,8 +74,7 @@ fn read_rows(file: &[u8], from: usize, rows: &mut [u64]) -> Result<usize, usize>
 }
 
 // Reads all lines of a file. An empty file is read as one empty line, which is no header.
-fn read_lines(file: &[u8], rows: &mut [u64]) -> Result<usize, usize>
-    requires { length rows.old ≡ numbers }
+fn read_lines(file: &[u8], rows: &mut [u64; NUMBERS]) -> Result<usize, usize>
     ensures { LinesSay (meant_by file.now) rows.old rows.new result }
 {
     let end = line_end(file, 0);

@@ -3,11 +3,9 @@ use mathlib.Core.Path.{◌≡◌, sym, ap, ap₂, ◌∙◌}
 use mathlib.Core.List.{List, [], ◌++◌}
 use Prim.Native.Nat.{ℕ, ◌+◌, ◌≤◌, ◌<◌}
 use native.Mathlib.Numerals.{add-one}
-use native.Mathlib.Omega.{arith}
-use lib.ListN.{length, get_or, take, drop}
-use lib.Seq.{length-take-le}
+use lib.ListN.{length, get_or, drop}
 use Rattle.std.specs.Prelude.{Result, Ok, Err}
-use Rattle.std.proofs.lemmas.List.{get_or-take, at_drop_more, at_drop_all}
+use Rattle.std.proofs.lemmas.List.{at_drop_more, at_drop_all}
 use Rattle.records.specs.declared.messages.Message.{Message}
 use Rattle.waits.specs.declared.refusals.Refusal.{Refusal}
 use Rattle.waits.specs.Numbers.{reason_number}
@@ -24,15 +22,15 @@ module _ {c : Result Unit Refusal} (answers sent : List ℕ) where
   unfolding told_of
   told_accepted e = ap (λ (x : Result Unit Refusal). told_of x answers sent) (sym e)
 
--- ---- the first messages of a list: what is left of their lines from message k on
-module _ (list : List ℕ) (sent k : ℕ) (enough : sent ≤ length list) where
-  pub message_next : k < sent → {m : Message} → m ≡ message_of (get_or list k 0)
-      → message_lines k (drop k (take sent list)) ≡ line_of k m ++ message_lines (k + 1) (drop (k + 1) (take sent list))
+-- ---- the messages of a list: what is left of their lines from message k on
+module _ (list : List ℕ) (k : ℕ) where
+  pub message_next : k < length list → {m : Message} → m ≡ message_of (get_or list k 0)
+      → message_lines k (drop k list) ≡ line_of k m ++ message_lines (k + 1) (drop (k + 1) list)
   unfolding message_lines
   message_next h e =
-      at_drop_more (message_lines k) (take sent list) k 0 (omega (arith, length-take-le sent list enough))
-      ∙ sym (ap₂ (λ (m : Message) (j : ℕ). line_of k m ++ message_lines j (drop (k + 1) (take sent list))) (e ∙ ap message_of (sym (get_or-take sent list k 0 h))) (add-one k))
+      at_drop_more (message_lines k) list k 0 h
+      ∙ sym (ap₂ (λ (m : Message) (j : ℕ). line_of k m ++ message_lines j (drop (k + 1) list)) e (add-one k))
 
-  pub message_none : sent ≤ k → message_lines k (drop k (take sent list)) ≡ []
+  pub message_none : length list ≤ k → message_lines k (drop k list) ≡ []
   unfolding message_lines
-  message_none h = at_drop_all (message_lines k) (take sent list) k (omega (arith, length-take-le sent list enough))
+  message_none h = at_drop_all (message_lines k) list k h

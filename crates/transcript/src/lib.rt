@@ -1,7 +1,7 @@
 // A script in, a text out: the script's steps are taken on a fresh bench, and the text says what came of them.
 #![tactic(auto)]
 
-ghost use Rattle.std.specs.Prelude.{◌≡◌, ◌+◌, ◌≤◌, length, take};
+ghost use Rattle.std.specs.Prelude.{◌≡◌, ◌+◌, ◌≤◌, length};
 ghost use Rattle.lent.specs.Kept.{most_records};
 ghost use Rattle.text.specs.Text.{text, write, Wrote};
 ghost use Rattle.script.specs.Script.{most, longest};
@@ -13,6 +13,7 @@ use nodes::Round;
 use records::Message;
 use script::{NUMBERS, STEPS, Shape, parse};
 use text::Text;
+use waits::Refusal;
 
 // One byte more than a script may have, so that a longer one is seen to be too long.
 const SCRIPT: usize = 1_048_577;
@@ -48,25 +49,23 @@ fn message(out: &mut Text, k: usize, m: Message)
     );
 }
 
-// The lines of the messages sent.
-pub fn messages(out: &mut Text, list: &[u64], sent: usize)
-    requires { sent ≤ length list.now }
-    ensures { Wrote out.old out.new (message_lines 0 (take sent list.now)) }
+// The lines of a list of messages, each with its place in the list.
+pub fn messages(out: &mut Text, list: &[u64])
+    ensures { Wrote out.old out.new (message_lines 0 list.now) }
 {
-    for k in 0..sent {
-        message(out, k, message_of(list[k]));
+    for (k, &x) in list.iter().enumerate() {
+        message(out, k, message_of(x));
     }
 }
 
-// What is said of a list of steps.
-fn tell(out: &mut Text, ran: Ran, answers: &[u64], steps: usize, list: &[u64])
-    requires { (steps ≤ length answers.now) × (ran.sent ≤ length list.now) }
-    ensures { Wrote out.old out.new (told_of ran.checked (take steps answers.now) (take ran.sent list.now)) }
+// What is said of a list of steps: the answers to them and the messages that were sent, if the list was taken.
+fn tell(out: &mut Text, checked: Result<(), Refusal>, answers: &[u64], sent: &[u64])
+    ensures { Wrote out.old out.new (told_of checked answers.now sent.now) }
 {
-    match ran.checked {
+    match checked {
         Ok(()) => {
-            lines::answers(out, answers, steps);
-            messages(out, list, ran.sent);
+            lines::answers(out, answers);
+            messages(out, sent);
         }
         Err(r) => lines::refused(out, r.reason.number(), 0),
     }
@@ -118,7 +117,7 @@ fn play(out: &mut Text, numbers: &[u64], steps: &[u64], shape: Shape)
         &steps[..count],
         &mut answers,
     );
-    tell(out, ran, &answers, count, &messages);
+    tell(out, ran.checked, &answers[..count], &messages[..ran.sent]);
 }
 
 // What a script is answered with.
