@@ -1,5 +1,5 @@
 // A file of waits, from its bytes to the graph that it says, or to what is wrong with it.
-ghost use Rattle.std.specs.Prelude.{◌≡◌, ◌*◌, drop, Err};
+ghost use Rattle.std.specs.Prelude.{◌≡◌, ◌*◌, drop};
 ghost use Rattle.std.proofs.lemmas.List.Edits.{sets};
 ghost use Rattle.waits.specs.Rows.{row_size, row_numbers};
 ghost use Rattle.format.specs.Cut.{lines_of};
@@ -33,14 +33,14 @@ impl From<Refusal> for Wrong {
 }
 
 // What a file's wrong is known by outside: its number, and its line or row.
-#[derive(Clone, Copy)]
+#[derive(Clone, Copy, Debug, PartialEq, Eq)]
 pub struct Told {
     pub number: u64,
     pub place: u64,
 }
 
 // The graph that a file says: how many nodes there are, and all their numbers, with zeros behind them.
-#[derive(Clone, Copy)]
+#[derive(Clone, Copy, Debug, PartialEq, Eq)]
 pub struct File {
     pub nodes: usize,
     pub rows: [u64; NUMBERS],
@@ -109,15 +109,20 @@ pub fn read_file(file: &[u8]) -> Result<File, Wrong>
     }
 }
 
-pub fn told_as(wrong: Wrong) -> Told
-    ensures { result ≡ told_as (Err wrong) }
+// The number of any outcome of a file; a file that says a graph has none.
+pub fn told_as(answer: Result<(), Wrong>) -> Told
+    ensures { result ≡ told_as answer }
 {
-    match wrong {
-        Wrong::Line(line) => Told {
+    match answer {
+        Ok(()) => Told {
+            number: 0,
+            place: 0,
+        },
+        Err(Wrong::Line(line)) => Told {
             number: 20,
             place: line as u64,
         },
-        Wrong::Refused(r) => Told {
+        Err(Wrong::Refused(r)) => Told {
             number: r.reason.number(),
             place: r.row.0 as u64,
         },

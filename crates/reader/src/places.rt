@@ -9,7 +9,7 @@ use fields::{bare, find, number_in, same, set_in};
 use nodes::Set;
 
 // What a field says, and where the next one starts.
-#[derive(Clone, Copy)]
+#[derive(Clone, Copy, Debug, PartialEq, Eq)]
 pub struct At<T> {
     pub value: T,
     pub next: usize,

@@ -51,7 +51,7 @@ fn node_lines(out: &mut Text, s: Set)
 fn refusal(out: &mut Text, wrong: Wrong)
     ensures { Wrote out.old out.new (refusal_line wrong) }
 {
-    let told = told_as(wrong);
+    let told = told_as(Err(wrong));
     refused(out, told.number, told.place);
 }
 

@@ -14,14 +14,14 @@ use records::{Cause, Kind, Letter, Record};
 use waits::out_of;
 
 // What a step has done so far.
-#[derive(Clone, Copy)]
+#[derive(Clone, Copy, Debug, PartialEq, Eq)]
 pub struct Did {
     pub state: Record,
     pub sends: Sends,
 }
 
 // What it has done in the end.
-#[derive(Clone, Copy)]
+#[derive(Clone, Copy, Debug, PartialEq, Eq)]
 pub struct End {
     pub state: Record,
     pub sends: Sends,
