@@ -8,7 +8,7 @@ ghost use Rattle.node.specs.Refusals.{wrong_own, strange_kept, check_own_of, che
 use crate::told::Told;
 use nodes::{Node, Round};
 use records::{Message, cannot_open, strange_set};
-use waits::{ROW, Reason, Refusal, check_row, refused, row_at, strange_count};
+use waits::{ROW, Reason, Refusal, check_row, refused_if, row_at, strange_count};
 
 // Number 1, of one node.
 #[tactic(auto, unfolding(crate::specs::Refusals::wrong_own))]
@@ -18,25 +18,18 @@ fn wrong_own(nodes: usize, numbers: usize) -> bool
     strange_count(nodes) || numbers != ROW
 }
 
-// One line of the table: its refusal, if it says so.
-fn refused_if(says: bool, reason: Reason) -> Result<(), Refusal>
-    ensures { result ≡ first_said (line reason 0 says ∷ []) }
-{
-    if says {
-        refused(reason, Node(0))
-    } else {
-        Ok(())
-    }
-}
-
 impl<'a> Told<'a> {
     // The count, the node's own number, and its row: 1, 9, then 2 to 7.
     #[tactic(auto, using(crate::proofs::Refused::right_own), unfolding(crate::specs::Refusals::check_own_of, nodes::specs::Sets::no_node, waits::specs::Numbers::check_row_of))]
     fn check_own(&self) -> Result<(), Refusal>
         ensures { result ≡ check_own_of self.now.nodes self.now.me.0 self.now.row.now }
     {
-        refused_if(wrong_own(self.nodes, self.row.len()), Reason::WrongCount)?;
-        refused_if(self.nodes <= self.me.0, Reason::NoNode)?;
+        refused_if(
+            wrong_own(self.nodes, self.row.len()),
+            Reason::WrongCount,
+            Node(0),
+        )?;
+        refused_if(self.nodes <= self.me.0, Reason::NoNode, Node(0))?;
         check_row(self.nodes, self.me, row_at(self.row, Node(0)))
     }
 
@@ -54,7 +47,7 @@ impl<'a> Told<'a> {
         ensures { result ≡ check_kept_of self.now.nodes self.now.me.0 self.now.row.now (num self.now.ins) (state_of self.now.kept) }
     {
         self.check_own()?;
-        refused_if(self.strange_kept(), Reason::StrangeState)
+        refused_if(self.strange_kept(), Reason::StrangeState, Node(0))
     }
 
     // An opening: the same, then 10.
@@ -63,7 +56,11 @@ impl<'a> Told<'a> {
         ensures { result ≡ check_open_of self.now.nodes self.now.me.0 self.now.row.now (num self.now.ins) (state_of self.now.kept) round.0 }
     {
         self.check_kept()?;
-        refused_if(cannot_open(self.kept.round, round), Reason::CannotOpen)
+        refused_if(
+            cannot_open(self.kept.round, round),
+            Reason::CannotOpen,
+            Node(0),
+        )
     }
 
     // A delivery: the same, then 13 for the message.
@@ -72,6 +69,6 @@ impl<'a> Told<'a> {
         ensures { result ≡ check_deliver_of self.now.nodes self.now.me.0 self.now.row.now (num self.now.ins) (state_of self.now.kept) message }
     {
         self.check_kept()?;
-        refused_if(message.strange(self.nodes), Reason::StrangeState)
+        refused_if(message.strange(self.nodes), Reason::StrangeState, Node(0))
     }
 }

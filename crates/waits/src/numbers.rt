@@ -78,13 +78,11 @@ fn bad_sets(row: Row) -> bool
 // The first of 2 to 7 that the row of node k gets.
 #[tactic(auto, unfolding(crate::specs::Numbers::check_row_of, crate::specs::Numbers::strange_kind, crate::specs::Numbers::strange_member, crate::specs::Numbers::waits_on_itself))]
 pub fn check_row(nodes: usize, k: Node, row: Row) -> Result<(), Refusal>
-    requires { nodes ≤ places }
     ensures { result ≡ check_row_of nodes k.0 row }
 {
-    let all = Set::below(nodes);
     let out = out_of(row);
     refused_if(2 < row.kind, Reason::StrangeKind, k)?;
-    refused_if(!out.inside(all), Reason::StrangeMember, k)?;
+    refused_if(!out.among(nodes), Reason::StrangeMember, k)?;
     refused_if(out.has(k), Reason::WaitsOnItself, k)?;
     refused_if(wrong_threshold(row), Reason::WrongThreshold, k)?;
     refused_if(extra_set(row), Reason::ExtraSet, k)?;
