@@ -66,8 +66,8 @@ pub fn write_evidence(
 
 // The set of the nodes that a list names.
 #[tactic(auto, using(crate::proofs::Cases::naming))]
-fn set_of(nodes: usize, list: &[u8]) -> Set
-    requires { (nodes ≤ places) × (strange_entry nodes list.now ≡ false) }
+fn set_of(graph: Graph, list: &[u8]) -> Set
+    requires { strange_entry graph.nodes list.now ≡ false }
     ensures { num result ≡ set_of list.now }
 {
     let mut s = Set::empty();
@@ -99,7 +99,7 @@ fn judge(graph: Graph, i: Node, list: &[u8]) -> Judged
     ensures { result ≡ judgement (graph_of graph.entry) i.0 list.now }
 {
     let all = Set::below(graph.nodes);
-    let members = set_of(graph.nodes, list);
+    let members = set_of(graph, list);
     let outside = all.minus(members);
     if !members.has(i) {
         return Judged::ClaimMissing;

@@ -1,6 +1,4 @@
 // One round in two orders: its messages differ, and so does who called whom; its end is the same.
-ghost use Rattle.std.specs.Prelude.{◌≡◌, length};
-
 use crate::rounds::full_round;
 use crate::say::members;
 use lent::record_at;
@@ -27,9 +25,7 @@ const OLDEST_FIRST: [u8; 12] = [0, 1, 2, 3, 4, 5, 6, 7, 8, 9, 10, 11];
 const NEWEST_FIRST: [u8; 12] = [1, 3, 5, 6, 4, 7, 8, 2, 9, 10, 0, 11];
 
 // The nodes called, and those free.
-fn end(rt: &impl Print, records: &[u64]) -> io::Result<()>
-    requires { length records.now ≡ 21 }
-{
+fn end(rt: &impl Print, records: &[u64; KEPT]) -> io::Result<()> {
     let mut called = Set::empty();
     let mut free = Set::empty();
     for k in 0..NODES {
@@ -57,9 +53,7 @@ fn caller(rt: &impl Print, k: usize, call: Cause) -> io::Result<()> {
 }
 
 // A line on each of them.
-fn callers(rt: &impl Print, records: &[u64]) -> io::Result<()>
-    requires { length records.now ≡ 21 }
-{
+fn callers(rt: &impl Print, records: &[u64; KEPT]) -> io::Result<()> {
     for k in 0..NODES {
         let kept = record_at(records, Node(k));
         caller(rt, k, kept.call)?;

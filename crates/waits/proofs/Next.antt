@@ -17,7 +17,7 @@ next ls l = said_append ls (l ∷ [])
 
 -- ---- what is answered then
 module _ {a s : Result Unit Refusal} (l : Line) (follows : Next a l s) where
-  after : {x : Result Unit Refusal} → a ≡ x → s ≡ or_else x (first_said (l ∷ []))
+  pub after : {x : Result Unit Refusal} → a ≡ x → s ≡ or_else x (first_said (l ∷ []))
   after e = follows ∙ ap (λ (x : Result Unit Refusal). or_else x (first_said (l ∷ []))) e
 
   pub refused_before : {r : Refusal} → a ≡ Err r → Err r ≡ s

@@ -1,15 +1,18 @@
 -- What the writer of a file answers and leaves, from what its callees said. Assumes nothing.
-use mathlib.Core.Path.{◌≡◌, sym, ap, ap₂, ◌∙◌}
-use mathlib.Core.List.{List, ◌++◌}
-use Prim.Native.Nat.{ℕ, ◌≤◌, ◌<◌}
+use mathlib.Core.Path.{◌≡◌, refl, sym, ap, ap₂, ◌∙◌}
+use mathlib.Core.List.{List, [], ◌∷◌, ◌++◌}
+use mathlib.Core.List.Memᴰ.{head as here}
+use Prim.Native.Nat.{ℕ, ◌≤◌}
 use native.Mathlib.Omega.{arith}
 use lib.ListN.{length, take, drop, replicate, length-replicate}
 use lib.Seq.{take_at, length-take-le}
-use borrow.Author.Tests.{lt-ltb, le-ltb}
+use lib.Dec.{ltb}
+use borrow.Author.Tests.{ltb-false}
 use Rattle.std.specs.Prelude.{Result, Ok, Err}
 use Rattle.waits.specs.declared.refusals.Refusal.{Refusal}
-use Rattle.waits.specs.Numbers.{Line, line, graph_lines, check_of}
-use Rattle.waits.proofs.Next.{Next, next, refused_before, refused_here, not_refused}
+use Rattle.waits.specs.Numbers.{Line, line, graph_lines, first_said, check_of}
+use Rattle.waits.proofs.Table.{accepted_silent}
+use Rattle.waits.proofs.Next.{Next, next, after, refused_before}
 use Rattle.text.specs.Text.{Text, text, write}
 use Rattle.text.proofs.Writing.{write_fits, written_end}
 use Rattle.format.specs.Written.{file_of}
@@ -54,18 +57,25 @@ module _ (n : ℕ) (rows found : List ℕ) where
   graph_refused e = settled (refused_before last follows e)
 
   module _ (ok : check_of n rows ≡ Ok tt) {blank : List ℕ} (room : blank ≡ replicate longest_file 0) (made : List ℕ) (end : ℕ) (m : text made end ≡ write (text blank 0) (file_of n rows)) where
-    -- the lent bytes are too few
-    pub room_short : length found < end → WrittenSays n rows found found (Err last.gives)
+    -- which is said of the lent bytes, by the end of what was made
+    last_said : first_said (line ShortRoom 0 (ltb (length found) end) ∷ []) ≡ check_file_of n rows (length found)
     unfolding short_room
-    room_short h =
-        let less : length found < length (file_of n rows) = omega (arith, count n rows blank made end m ok room) in
-        settled (refused_here last follows ok (lt-ltb _ _ less))
+    last_said =
+        ap (λ (k : ℕ). first_said (line ShortRoom 0 (ltb (length found) k) ∷ [])) (count n rows blank made end m ok room)
+        ∙ sym (after last follows ok)
+
+    -- the lent bytes are too few
+    pub room_short : {r : Refusal} → first_said (line ShortRoom 0 (ltb (length found) end) ∷ []) ≡ Err r → WrittenSays n rows found found (Err r)
+    room_short e = settled (sym e ∙ last_said)
 
     -- or not, and what was made is copied into them
-    pub file_written : end ≤ length found → {copy : List ℕ} → copy ≡ take end made → WrittenSays n rows found (copy ++ drop end found) (Ok end)
-    unfolding short_room
+    pub file_written : first_said (line ShortRoom 0 (ltb (length found) end) ∷ []) ≡ Ok tt → {copy : List ℕ} → copy ≡ take end made
+        → WrittenSays n rows found (copy ++ drop end found) (Ok end)
     file_written h e =
         let same : end ≡ length (file_of n rows) = count n rows blank made end m ok room in
-        let enough : length (file_of n rows) ≤ length found = omega arith in
-        let says = settled (not_refused last follows ok (le-ltb _ _ enough)) in
+        let says = settled (sym h ∙ last_said) in
         (ap Ok same ∙ says.0, ap₂ (λ (l : List ℕ) (i : ℕ). l ++ drop i found) (e ∙ front n rows blank made end m ok room) same ∙ says.1)
+
+-- too few are lent, or there is a place for each
+pub room_enough : (found end : ℕ) → first_said (line ShortRoom 0 (ltb found end) ∷ []) ≡ Ok tt → end ≤ found
+room_enough found end e = ltb-false found end (accepted_silent (line ShortRoom 0 (ltb found end) ∷ []) e (line ShortRoom 0 (ltb found end)) (here refl))

@@ -3,7 +3,6 @@
 
 ghost use Rattle.std.specs.Prelude.{◌≡◌, ◌∷◌, replicate};
 ghost use Rattle.nodes.specs.Words.{num};
-ghost use Rattle.waits.specs.Rows.{Shaped};
 ghost use Rattle.text.specs.Words.{decimal};
 ghost use Rattle.text.specs.Text.{text, write, Wrote};
 ghost use Rattle.format.specs.Cut.{comma, cr, lf};
@@ -12,7 +11,7 @@ ghost use Rattle.writer.specs.Answer.{WrittenSays, longest_file};
 
 use nodes::{Node, Set};
 use text::Text;
-use waits::{Reason, Refusal, Row, check, row_at};
+use waits::{Graph, Reason, Refusal, Row, refused_if};
 
 // No file of an accepted graph is longer: 41 bytes for the header, 14 for each of at most 64 rows, 12 for each of at most 512 edges.
 const LONGEST: usize = 7081;
@@ -61,24 +60,22 @@ fn row_text(out: &mut Text, k: usize, row: Row)
 }
 
 // The header and then each row; then the last end.
-fn file_text(file: &mut Text, nodes: usize, rows: &[u64])
-    requires { Shaped nodes rows.now }
-    ensures { Wrote file.old file.new (file_of nodes rows.now) }
+fn file_text(file: &mut Text, graph: Graph)
+    ensures { Wrote file.old file.new (file_of graph.entry.nodes graph.entry.rows.now) }
 {
     file.bytes(b"node,kind,threshold,set1,set2,set3,set4");
-    for k in 0..nodes {
-        row_text(file, k, row_at(rows, Node(k)));
+    for k in 0..graph.nodes {
+        row_text(file, k, graph.row(Node(k)));
     }
     file.bytes(b"\r\n");
 }
 
 // Makes the file of a graph, and says how many bytes it has.
-fn make_file(file: &mut [u8], nodes: usize, rows: &[u64]) -> usize
-    requires { Shaped nodes rows.now }
-    ensures { text file.new result ≡ write (text file.old 0) (file_of nodes rows.now) }
+fn make_file(file: &mut [u8], graph: Graph) -> usize
+    ensures { text file.new result ≡ write (text file.old 0) (file_of graph.entry.nodes graph.entry.rows.now) }
 {
     let mut text = Text::new(file);
-    file_text(&mut text, nodes, rows);
+    file_text(&mut text, graph);
     text.end
 }
 
@@ -87,15 +84,10 @@ fn make_file(file: &mut [u8], nodes: usize, rows: &[u64]) -> usize
 pub fn write_file(nodes: usize, rows: &[u64], room: &mut [u8]) -> Result<usize, Refusal>
     ensures { WrittenSays nodes rows.now room.old room.new result }
 {
-    check(nodes, rows)?;
+    let graph = Graph::checked(nodes, rows)?;
     let mut file = file_room();
-    let end = make_file(&mut file, nodes, rows);
-    if room.len() < end {
-        return Err(Refusal {
-            reason: Reason::ShortRoom,
-            row: Node(0),
-        });
-    }
+    let end = make_file(&mut file, graph);
+    refused_if(room.len() < end, Reason::ShortRoom, Node(0))?;
     room[..end].copy_from_slice(&file[..end]);
     Ok(end)
 }

@@ -12,7 +12,7 @@ unfolding header_text word joined behind
 loop-k-init c = left_next (left_all _ _) c.bytes.ensures (header_first _ _)
 
 pub loop-k-preserved : goal.loop-k-preserved
-loop-k-preserved c = left_next c.loop-k.invariant c.row_text.ensures (row_next _ _ _ c.loop-k-test.true c.row_at.ensures)
+loop-k-preserved c = left_next c.loop-k.invariant c.row_text.ensures (row_next _ _ _ c.loop-k-test.true c.row.ensures)
 
 pub returns : goal.returns
 returns c = left_none (left_next c.loop-k.invariant c.bytes-2.ensures (end_last _ _ _ c.loop-k-test.false)) refl

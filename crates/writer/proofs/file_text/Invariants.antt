@@ -5,4 +5,4 @@ use Rattle.writer.proofs.Parts.{rows_left}
 use Rattle.writer.proofs.file_text.Given as goal
 
 abbrev pub invariant-loop-k : goal.invariant-loop-k
-invariant-loop-k l = Left l.fn.file l.file (rows_left l.nodes l.rows l.k) (file_of l.nodes l.rows)
+invariant-loop-k l = Left l.fn.file l.file (rows_left l.graph.nodes l.graph.rows.now l.k) (file_of l.graph.nodes l.graph.rows.now)
