@@ -34,10 +34,10 @@ none_when : (x : ℕ) (t : Bool) → cond t none (some x) ≡ none → t ≡ tru
 none_when x true e = refl
 none_when x false e = absurd (none-ne-some x (sym e))
 
-module _ (w : List ℕ) (some_byte : length w ≡ 0 → ⊥) (digits : any_of no_digit w ≡ false) where
+module _ (w : List ℕ) (some_byte : eqb (length w) 0 ≡ false) (digits : any_of no_digit w ≡ false) where
   by_value : no_number w ≡ leb (2 ^ 64) (value_from 0 w)
   unfolding no_number
-  by_value = ap₂ (λ (a b : Bool). a || (b || leb (2 ^ 64) (value_from 0 w))) (ne_eqb (length w) 0 some_byte) digits
+  by_value = ap₂ (λ (a b : Bool). a || (b || leb (2 ^ 64) (value_from 0 w))) some_byte digits
 
   large_value : None ≡ numbered (number_of w) → leb (2 ^ 64) (value_from 0 w) ≡ true
   unfolding number_of
@@ -49,41 +49,41 @@ module _ (w : List ℕ) (some_byte : length w ≡ 0 → ⊥) (digits : any_of no
 
 -- ---- a number
 module _ (w : List ℕ) where
-  pub number_empty : length w ≡ 0 → Err Empty ≡ number_flaw w
+  pub number_empty : eqb (length w) 0 ≡ true → Err Empty ≡ number_flaw w
   unfolding number_flaw
-  number_empty e = at_true _ (eq-eqb (length w) 0 e) refl
+  number_empty e = at_true _ e refl
 
-  module _ (some_byte : length w ≡ 0 → ⊥) where
+  module _ (some_byte : eqb (length w) 0 ≡ false) where
     pub number_strange : any_of no_digit w ≡ true → Err NoDigit ≡ number_flaw w
     unfolding number_flaw
-    number_strange e = at_false _ (ne_eqb (length w) 0 some_byte) (at_true _ e refl)
+    number_strange e = at_false _ some_byte (at_true _ e refl)
 
     module _ (digits : any_of no_digit w ≡ false) where
       pub number_past : None ≡ numbered (number_of w) → Err PastBits ≡ number_flaw w
       unfolding number_flaw
       number_past e =
-          at_false _ (ne_eqb (length w) 0 some_byte) (at_false _ digits (at_true _ (large_value w some_byte digits e) refl))
+          at_false _ some_byte (at_false _ digits (at_true _ (large_value w some_byte digits e) refl))
 
       pub number_fine : {v : ℕ} → Some v ≡ numbered (number_of w) → Ok tt ≡ number_flaw w
       unfolding number_flaw
       number_fine e =
-          at_false _ (ne_eqb (length w) 0 some_byte) (at_false _ digits (at_false _ (small_value w some_byte digits e).0 refl))
+          at_false _ some_byte (at_false _ digits (at_false _ (small_value w some_byte digits e).0 refl))
 
 -- ---- a member
 module _ (lowest : ℕ) (w : List ℕ) where
-  pub member_empty : length w ≡ 0 → Err Spaces ≡ member_in lowest w
+  pub member_empty : eqb (length w) 0 ≡ true → Err Spaces ≡ member_in lowest w
   unfolding member_in
-  member_empty e = at_true _ (eq-eqb (length w) 0 e) refl
+  member_empty e = at_true _ e refl
 
-  module _ (some_byte : length w ≡ 0 → ⊥) where
+  module _ (some_byte : eqb (length w) 0 ≡ false) where
     pub member_strange : any_of no_digit w ≡ true → Err Strange ≡ member_in lowest w
     unfolding member_in
-    member_strange e = at_false _ (ne_eqb (length w) 0 some_byte) (at_true _ e refl)
+    member_strange e = at_false _ some_byte (at_true _ e refl)
 
     module _ (digits : any_of no_digit w ≡ false) where
       no_place : leb places (value_from 0 w) ≡ true → Err NoPlace ≡ member_in lowest w
       unfolding member_in
-      no_place e = at_false _ (ne_eqb (length w) 0 some_byte) (at_false _ digits (at_true _ e refl))
+      no_place e = at_false _ some_byte (at_false _ digits (at_true _ e refl))
 
       pub member_past : None ≡ numbered (number_of w) → Err NoPlace ≡ member_in lowest w
       member_past e =
@@ -103,7 +103,7 @@ module _ (lowest : ℕ) (w : List ℕ) where
           pub member_twice : m + 1 ≡ lowest → Err Twice ≡ member_in lowest w
           unfolding member_in
           member_twice h =
-              at_false _ (ne_eqb (length w) 0 some_byte)
+              at_false _ some_byte
               (at_false _ digits (at_false _ has_place (at_true _ (eq-eqb (value_from 0 w + 1) lowest (omega (arith, value))) refl)))
 
           module _ (other : m + 1 ≡ lowest → ⊥) where
@@ -113,13 +113,13 @@ module _ (lowest : ℕ) (w : List ℕ) where
             pub member_descends : m < lowest → Err Descends ≡ member_in lowest w
             unfolding member_in
             member_descends h =
-                at_false _ (ne_eqb (length w) 0 some_byte)
+                at_false _ some_byte
                 (at_false _ digits (at_false _ has_place (at_false _ not_twice (at_true _ (lt-ltb (value_from 0 w) lowest (omega (arith, value))) refl))))
 
             pub member_is : lowest ≤ m → Ok m ≡ member_in lowest w
             unfolding member_in
             member_is h =
-                at_false _ (ne_eqb (length w) 0 some_byte)
+                at_false _ some_byte
                 (at_false _ digits
                 (at_false _ has_place (at_false _ not_twice (at_false _ (le-ltb (value_from 0 w) lowest (omega (arith, value))) (ap Ok (sym value))))))
 

@@ -5,8 +5,9 @@ use mathlib.Core.List.{List, [], ◌∷◌}
 use Prim.Native.Nat.{ℕ, suc, ◌+◌, ◌≤◌, ◌<◌}
 use native.Mathlib.Numerals.{add-one}
 use native.Mathlib.Omega.{arith}
+use lib.Dec.{eqb}
 use lib.ListN.{length, drop}
-use borrow.Author.Tests.{lt-ltb, le-ltb}
+use borrow.Author.Tests.{eqb-true, lt-ltb, le-ltb}
 use Rattle.std.specs.Prelude.{Result, Ok, Err}
 use Rattle.lemmas.proofs.Cases.{at_true, at_false}
 use Rattle.lemmas.proofs.Tests.{and_intro, and_first, and_later}
@@ -24,14 +25,14 @@ use Rattle.faults.proofs.Judging.{member_back}
 abbrev pub MembersLeft : List ℕ → ℕ → ℕ → Type 0
 MembersLeft w lowest i = members_flaw lowest (drop i (pieces space w)) ≡ set_flaw w
 
-pub set_empty : (w : List ℕ) → length w ≡ 0 → Ok tt ≡ set_flaw w
+pub set_empty : (w : List ℕ) → eqb (length w) 0 ≡ true → Ok tt ≡ set_flaw w
 unfolding set_flaw
 set_empty [] e = refl
-set_empty (x ∷ w) e = absurd (omega arith)
+set_empty (x ∷ w) e = absurd (omega (arith, eqb-true _ _ e))
 
-pub members_start : (w : List ℕ) → (length w ≡ 0 → ⊥) → MembersLeft w 0 0
+pub members_start : (w : List ℕ) → eqb (length w) 0 ≡ false → MembersLeft w 0 0
 unfolding set_flaw
-members_start [] n = absurd (n refl)
+members_start [] n = absurd cc
 members_start (x ∷ w) n = refl
 
 module _ (w : List ℕ) (lowest i : ℕ) (s : MembersLeft w lowest i) where

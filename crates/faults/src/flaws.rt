@@ -36,7 +36,7 @@ fn strange_in(w: &[u8]) -> bool
 pub fn number_flaw(w: &[u8]) -> Result<(), Flaw>
     ensures { result ≡ number_flaw w.now }
 {
-    if w.len() == 0 {
+    if w.is_empty() {
         return Err(Flaw::Empty);
     }
     if strange_in(w) {
@@ -53,7 +53,7 @@ fn member_in(w: &[u8], lowest: u64) -> Result<u64, Flaw>
     ensures is { result ≡ member_in lowest w.now }
     ensures placed { IfOk result (λ m. m < places) }
 {
-    if w.len() == 0 {
+    if w.is_empty() {
         return Err(Flaw::Spaces);
     }
     if strange_in(w) {
@@ -78,7 +78,7 @@ fn member_in(w: &[u8], lowest: u64) -> Result<u64, Flaw>
 pub fn set_flaw(w: &[u8]) -> Result<(), Flaw>
     ensures { result ≡ set_flaw w.now }
 {
-    if w.len() == 0 {
+    if w.is_empty() {
         return Ok(());
     }
     let mut lowest: u64 = 0;

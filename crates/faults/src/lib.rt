@@ -35,26 +35,24 @@ pub enum Fault {
 }
 
 // What any line may have wrong, or else its own fault.
+#[tactic(auto, using(crate::proofs::Walking::line_lf, crate::proofs::Walking::line_plain, crate::proofs::Walking::line_commas, crate::proofs::Walking::line_semicolons))]
 fn line_fault(line: &[u8], own: Fault) -> Fault
     ensures { result ≡ line_fault line.now own }
 {
     if has(line, b'\n') {
         return Fault::BareLf;
     }
-    if !has(line, b';') {
-        return own;
+    if has(line, b';') && !has(line, b',') {
+        return Fault::Semicolons;
     }
-    if has(line, b',') {
-        return own;
-    }
-    Fault::Semicolons
+    own
 }
 
 // What is wrong with line 1.
 fn header_fault(file: &[u8]) -> Fault
     ensures { result ≡ header_fault file.now }
 {
-    if file.len() == 0 {
+    if file.is_empty() {
         return Fault::EmptyFile;
     }
     if marked(file) {

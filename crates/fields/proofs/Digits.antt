@@ -9,7 +9,7 @@ use Prim.Native.Nat.{ℕ, ◌+◌, ◌^◌, ◌≤◌, ◌<◌}
 use native.Mathlib.Omega.{arith}
 use lib.Dec.{leb, eqb}
 use lib.ListN.{length, get_or, drop, drop_of_length-le}
-use borrow.Author.Tests.{eq-eqb, ne_eqb, le-leb, lt-leb}
+use borrow.Author.Tests.{le-leb, lt-leb}
 use Rattle.lemmas.specs.Lists.{any_of}
 use Rattle.lemmas.proofs.Any.{AnyLeft, any_passed, any_found, any_ended}
 use Rattle.lemmas.proofs.Cases.{at_true, at_false}
@@ -30,9 +30,9 @@ module _ (w : List ℕ) where
   unfolding number_of numbered
   answer_some e = ap numbered (at_false none e refl)
 
-  pub number_empty : length w ≡ 0 → None ≡ numbered (number_of w)
+  pub number_empty : eqb (length w) 0 ≡ true → None ≡ numbered (number_of w)
   unfolding no_number
-  number_empty e = answer_none (or_intro_left (eqb (length w) 0) (any_of no_digit w || leb (2 ^ 64) (value_from 0 w)) (eq-eqb (length w) 0 e))
+  number_empty e = answer_none (or_intro_left (eqb (length w) 0) (any_of no_digit w || leb (2 ^ 64) (value_from 0 w)) e)
 
   wrong_byte : any_of no_digit w ≡ true → None ≡ numbered (number_of w)
   unfolding no_number
@@ -48,9 +48,9 @@ module _ (w : List ℕ) where
       (or_intro_right (eqb (length w) 0) (any_of no_digit w || leb (2 ^ 64) (value_from 0 w))
       (or_intro_right (any_of no_digit w) (leb (2 ^ 64) (value_from 0 w)) (le-leb (2 ^ 64) (value_from 0 w) h)))
 
-  is_number : (length w ≡ 0 → ⊥) → any_of no_digit w ≡ false → value_from 0 w < 2 ^ 64 → Some (value_from 0 w) ≡ numbered (number_of w)
+  is_number : eqb (length w) 0 ≡ false → any_of no_digit w ≡ false → value_from 0 w < 2 ^ 64 → Some (value_from 0 w) ≡ numbered (number_of w)
   unfolding no_number
-  is_number some_byte e h = answer_some (rw (ne_eqb (length w) 0 some_byte, e) (lt-leb (2 ^ 64) (value_from 0 w) h))
+  is_number some_byte e h = answer_some (rw (some_byte, e) (lt-leb (2 ^ 64) (value_from 0 w) h))
 
 -- ---- a value never falls
 value_grows : (v : ℕ) (l : List ℕ) → v ≤ value_from v l
@@ -60,12 +60,12 @@ value_grows v (b ∷ l) = let h = value_grows (longer v b) l in omega arith
 
 -- ---- on the way: all bytes before place i were digits, of value v
 pub record Digits (w : List ℕ) (v i : ℕ) : Type 0 where
-  pub some_byte : length w ≡ 0 → ⊥
+  pub some_byte : eqb (length w) 0 ≡ false
   pub digits : AnyLeft no_digit w i
   pub value : value_from v (drop i w) ≡ value_from 0 w
   pub small : v < 2 ^ 64
 
-pub digits_start : (w : List ℕ) → (length w ≡ 0 → ⊥) → Digits w 0 0
+pub digits_start : (w : List ℕ) → eqb (length w) 0 ≡ false → Digits w 0 0
 digits_start w h = record { some_byte = h; digits = refl; value = refl; small = omega arith }
 
 module _ (w : List ℕ) (v i : ℕ) (d : Digits w v i) where

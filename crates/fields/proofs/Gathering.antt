@@ -10,9 +10,9 @@ use mathlib.Core.Option.{Option as Maybe, none, some}
 use Rattle.std.specs.Prelude.{Some, None}
 use Prim.Native.Nat.{ℕ, ◌+◌, ◌-◌, ◌≤◌, ◌<◌}
 use native.Mathlib.Omega.{arith}
-use lib.Dec.{leb, ltb}
+use lib.Dec.{leb, ltb, eqb}
 use lib.ListN.{length, drop}
-use borrow.Author.Tests.{le-leb, lt-leb, lt-ltb, le-ltb, leb-true, leb-false, ltb-true, ltb-false}
+use borrow.Author.Tests.{eqb-true, le-leb, lt-leb, lt-ltb, le-ltb, leb-true, leb-false, ltb-true, ltb-false}
 use Rattle.lemmas.specs.Lists.{any_of, Ascending, ascending}
 use Rattle.lemmas.proofs.Any.{any_append, some_any}
 use Rattle.lemmas.proofs.Ascending.{ascending_test, test_ascending, ascending_snoc}
@@ -144,17 +144,17 @@ pub record Gathering (w : List ℕ) (s : Set) (lowest i : ℕ) : Type 0 where
   pub below : (b : ℕ) → Memᴰ b done → b < lowest
   pub last : (lowest ≡ 0) ⊎ Memᴰ (lowest - 1) done
 
-pub set_empty : (w : List ℕ) (s : Set) → length w ≡ 0 → num s ≡ 0 → Some s ≡ gathered (set_in w)
+pub set_empty : (w : List ℕ) (s : Set) → eqb (length w) 0 ≡ true → num s ≡ 0 → Some s ≡ gathered (set_in w)
 unfolding set_in members_of no_set set_of gathered
 set_empty [] s h e = ap Some (sym (as_num s) ∙ ap as_set e)
-set_empty (x ∷ w) s h e = absurd (omega arith)
+set_empty (x ∷ w) s h e = absurd (omega (arith, eqb-true _ _ h))
 
-all_left : (w : List ℕ) → (length w ≡ 0 → ⊥) → members_of w ≡ prepend [] (numbers_left w 0)
+all_left : (w : List ℕ) → eqb (length w) 0 ≡ false → members_of w ≡ prepend [] (numbers_left w 0)
 unfolding members_of numbers_left
-all_left [] h = absurd (h refl)
+all_left [] h = absurd cc
 all_left (x ∷ w) h = prepend_none (numbers_left (x ∷ w) 0)
 
-pub gathering_start : (w : List ℕ) (s : Set) → (length w ≡ 0 → ⊥) → num s ≡ 0 → Gathering w s 0 0
+pub gathering_start : (w : List ℕ) (s : Set) → eqb (length w) 0 ≡ false → num s ≡ 0 → Gathering w s 0 0
 unfolding set_of
 gathering_start w s h e = record {
   done = [];

@@ -17,14 +17,12 @@ pub fn find(s: &[u8], from: usize, b: u8) -> usize
 }
 
 // Whether CR LF stands at a place.
+#[tactic(auto, unfolding(format::specs::Cut::line_end))]
 fn ends_at(s: &[u8], i: usize) -> bool
     requires { i + 1 < length s.now }
     ensures { result ≡ line_end (get_or s.now i 0) (get_or s.now (i + 1) 0) }
 {
-    if s[i] != b'\r' {
-        return false;
-    }
-    s[i + 1] == b'\n'
+    s[i] == b'\r' && s[i + 1] == b'\n'
 }
 
 // Where the first CR LF stands from a place on, or the end.

@@ -9,7 +9,7 @@ use text::grown;
 pub fn number_in(w: &[u8]) -> Option<u64>
     ensures { result ≡ numbered (number_of w.now) }
 {
-    if w.len() == 0 {
+    if w.is_empty() {
         return None;
     }
     let mut v: u64 = 0;

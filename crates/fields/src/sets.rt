@@ -24,7 +24,7 @@ pub fn set_in(w: &[u8]) -> Option<Set>
     ensures { result ≡ gathered (set_in w.now) }
 {
     let mut s = Set::empty();
-    if w.len() == 0 {
+    if w.is_empty() {
         return Some(s);
     }
     let mut lowest: u64 = 0;

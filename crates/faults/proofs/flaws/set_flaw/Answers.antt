@@ -6,15 +6,16 @@ use Rattle.std.proofs.lemmas.Iterator.Splits.{YieldsList-from_slice_split}
 use Rattle.std.proofs.lemmas.Iterator.Consumers.{YieldsList-turn, YieldsList-end}
 use Rattle.std.proofs.lemmas.List.{length_push}
 use Rattle.std.proofs.lemmas.Result.{err_from_is_err_and}
+use Rattle.lemmas.proofs.Cases.{flag}
 use Rattle.fields.proofs.Finding.{split_turn, split_end}
 use Rattle.faults.proofs.Walking.{MembersLeft, set_empty, members_start, member_wrong, member_next, members_all}
 use Rattle.faults.proofs.flaws.set_flaw.Goals as goal
 
-pub returns-then-w-eq0 : goal.returns-then-w-eq0
-returns-then-w-eq0 c = set_empty _ c.if-w-eq0.true
+pub returns-then-is_empty : goal.returns-then-is_empty
+returns-then-is_empty c = set_empty _ (flag c.is_empty.ensures c.if-is_empty.true)
 
 pub loop-piece-init : goal.loop-piece-init
-loop-piece-init c = members_start _ c.if-w-eq0.false
+loop-piece-init c = members_start _ (flag c.is_empty.ensures c.if-is_empty.false)
 
 pub returns-in_err-m : goal.returns-in_err-m
 returns-in_err-m c =

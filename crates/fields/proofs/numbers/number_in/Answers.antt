@@ -1,13 +1,14 @@
 -- `number_in` meets its contract. Assumes nothing.
 use mathlib.Core.Path.{◌∙◌}
+use Rattle.lemmas.proofs.Cases.{flag}
 use Rattle.fields.proofs.Digits.{number_empty, digits_start, digits_next, digits_strange, digits_end}
 use Rattle.fields.proofs.numbers.number_in.Goals as goal
 
-pub returns-then-w-eq0 : goal.returns-then-w-eq0
-returns-then-w-eq0 c = number_empty _ c.if-w-eq0.true
+pub returns-then-is_empty : goal.returns-then-is_empty
+returns-then-is_empty c = number_empty _ (flag c.is_empty.ensures c.if-is_empty.true)
 
 pub loop-b-init : goal.loop-b-init
-loop-b-init c = digits_start _ c.if-w-eq0.false
+loop-b-init c = digits_start _ (flag c.is_empty.ensures c.if-is_empty.false)
 
 pub returns-in_err-v : goal.returns-in_err-v
 returns-in_err-v c = c.from_residual.ensures ∙ digits_strange _ _ _ c.loop-b.invariant c.loop-b-test.true c.in_err-v.ensures

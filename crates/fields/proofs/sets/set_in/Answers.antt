@@ -5,15 +5,16 @@ use Rattle.std.proofs.Common.{rules}
 use Rattle.std.proofs.lemmas.Iterator.Splits.{YieldsList-from_slice_split}
 use Rattle.std.proofs.lemmas.Iterator.Consumers.{YieldsList-turn, YieldsList-end}
 use Rattle.std.proofs.lemmas.List.{length_push}
+use Rattle.lemmas.proofs.Cases.{flag}
 use Rattle.fields.proofs.Finding.{split_turn, split_end}
 use Rattle.fields.proofs.Gathering.{Gathering, set_empty, gathering_start, gathering_wrong, gathering_next, gathering_all}
 use Rattle.fields.proofs.sets.set_in.Goals as goal
 
-pub returns-then-w-eq0 : goal.returns-then-w-eq0
-returns-then-w-eq0 c = set_empty _ _ c.if-w-eq0.true c.empty-s.ensures
+pub returns-then-is_empty : goal.returns-then-is_empty
+returns-then-is_empty c = set_empty _ _ (flag c.is_empty.ensures c.if-is_empty.true) c.empty-s.ensures
 
 pub loop-piece-init : goal.loop-piece-init
-loop-piece-init c = gathering_start _ _ c.if-w-eq0.false c.empty-s.ensures
+loop-piece-init c = gathering_start _ _ (flag c.is_empty.ensures c.if-is_empty.false) c.empty-s.ensures
 
 pub returns-in_err-m : goal.returns-in_err-m
 returns-in_err-m c =
