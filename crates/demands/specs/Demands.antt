@@ -47,7 +47,8 @@ use Rattle.demands.specs.Refusals.{step_lines, run_lines}
 -- "Any graph of waits, any record, any message or list may be handed in. Nothing undefined happens and every call ends." No call from
 -- outside has a `requires`, and every function is proved to end safely: the checker shows that of the code itself.
 pub record Demand1 (n : ℕ) (rows : List ℕ) (r : Refusal) : Type 0 where
-  -- "Bad input gets its refusal number from your paper": that of the first line of its table that says so, and only then.
+  -- "Bad input gets its refusal number from your paper": that of the first line of its table that says so, and only then. A refusal has
+  -- its reason, and `reason_number` gives the number that the paper has for each.
   pub graph_refused : (check_of n rows ≡ Err r) ↔ Gives (graph_lines n rows) r
   pub all_refused : (x : Result Set Refusal) → FoundSays n rows x → (x ≡ Err r) ↔ Gives (graph_lines n rows) r
   pub claim_refused : (i : ℕ) (x : Result Bool Refusal) → ClaimSays n rows i x → (x ≡ Err r) ↔ Gives (asked_lines n rows i []) r
