@@ -6,7 +6,7 @@ use Prim.Native.Nat.{ℕ, zero, suc, ◌*◌, ◌≤◌}
 use native.Mathlib.Nat.{le_of_suc-le-suc, not-suc-le-zero}
 use native.Mathlib.Omega.{arith}
 use lib.ListN.{length, take, length-replicate, length-append, drop_of_length-le}
-use lib.Seq.{sets, take-append-le, length-take-le}
+use lib.Seq.{sets, take-append-le}
 use borrow.Author.Tests.{le-ltb}
 use Rattle.std.specs.Prelude.{Result, Ok}
 use Rattle.waits.specs.declared.refusals.Refusal.{Refusal}
@@ -30,13 +30,6 @@ take_zeros (suc n) (suc m) h = ap (λ (l : List ℕ). 0 ∷ l) (take_zeros n m (
 
 pub zeros_length : (n : ℕ) → length (zeros n) ≡ n
 zeros_length n = length-replicate n 0
-
--- a part of as many
-pub part_fits : (n k : ℕ) {l : List ℕ} → l ≡ zeros n → k ≤ n → k ≤ length l
-part_fits n k e h = omega (arith, ap length e, zeros_length n)
-
-pub part_length : (n k : ℕ) {l : List ℕ} → l ≡ zeros n → k ≤ n → k ≡ length (take k l)
-part_length n k {l} e h = sym (length-take-le k l (part_fits n k e h))
 
 -- as many numbers as there are places fill them all
 pub filled : (n : ℕ) (l : List ℕ) → length l ≡ n → sets (zeros n) 0 l ≡ l
