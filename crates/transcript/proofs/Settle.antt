@@ -4,21 +4,21 @@ use mathlib.Core.List.{List}
 use Prim.Native.Nat.{ℕ, ◌+◌, ◌≤◌}
 use native.Mathlib.Omega.{arith}
 use lib.ListN.{length, take, drop}
-use lib.Seq.{length-take-le, length-sets}
+use lib.Seq.{length-take-le}
 use Rattle.bench.specs.declared.calls.Ran.{Ran}
 use Rattle.bench.specs.Bench.{fresh}
 use Rattle.bench.specs.Runs.{run_of}
 use Rattle.lines.specs.Lines.{no_script_line}
 use Rattle.script.specs.declared.script.Shape.{Shape}
 use Rattle.std.specs.Prelude.{Option, Some, None}
-use Rattle.script.specs.Script.{most, most_numbers, Script, meant_by, steps_in, numbers_read, ParseSays}
+use Rattle.script.specs.Script.{most, most_numbers, Script, meant_by, ParseSays}
 use Rattle.script.specs.Script.Meant.{IsScript}
 use Rattle.script.proofs.Settled.{Stands, parse_none, parse_script}
 use Rattle.transcript.specs.Transcript.{zeros, told_of, told, played, answered_by, transcript_of, BeginSays, script_at}
 use Rattle.transcript.proofs.Fresh.{zeros_length}
 
 -- ---- the first steps of a list
-pub first_length : (k : ℕ) (l : List ℕ) → k ≤ length l → k ≡ length (take k l)
+first_length : (k : ℕ) (l : List ℕ) → k ≤ length l → k ≡ length (take k l)
 first_length k l h = sym (length-take-le k l h)
 
 pub first_fit : (k n : ℕ) (l : List ℕ) → k ≤ length l → k ≤ n → length (take k l) ≤ length (zeros n)
@@ -47,12 +47,8 @@ module _ (bytes numbers steps numbers' steps' : List ℕ) {p : Option Shape} (sa
     found : (s : Script) × (meant_by bytes ≡ IsScript s) × Stands numbers' steps steps' s h
     found = parse_script bytes numbers steps numbers' steps' m n h (rw e at says)
 
-    pub some_fits : (h.rows + 2 ≤ length numbers') × (h.room ≤ most) × (h.steps ≤ length steps') × (h.steps ≤ most)
-    some_fits =
-        let s = found.2 in
-        let i : length numbers' ≡ length numbers = ap length says.read ∙ length-sets numbers 0 (numbers_read bytes) in
-        let j : length steps' ≡ length steps = ap length says.coded ∙ length-sets steps 0 (steps_in (meant_by bytes)) in
-        (omega (arith, s.few_rows, i), s.small_room_lem, omega (arith, s.few_steps, j), s.few_steps)
+    pub some_fits : (h.rows + 2 ≤ most_numbers) × (h.room ≤ most) × (h.steps ≤ most)
+    some_fits = let s = found.2 in (omega (arith, s.few_rows), s.small_room_lem, s.few_steps)
 
     pub some_meant : played (script_at numbers' steps' h) ≡ transcript_of bytes
     unfolding transcript_of

@@ -47,7 +47,7 @@ transcript_of bytes = answered_by (meant_by bytes)
 abbrev pub longest_text : ℕ
 longest_text = 48 * most
 
--- ---- what the functions promise
+-- ---- what the functions have of it
 
 -- of what came of steps on a fresh bench, with the lists of messages and answers as left: the right text, and no message past the list
 pub record BeginSays (n : ℕ) (rows : List ℕ) (room : ℕ) (steps : List ℕ) (r : Ran) (messages answers : List ℕ) : Type 0 where

@@ -1,13 +1,12 @@
 // A script in, a text out: the script's steps are taken on a fresh bench, and the text says what came of them.
 #![tactic(auto)]
 
-ghost use Rattle.std.specs.Prelude.{◌≡◌, ◌+◌, ◌≤◌, length};
-ghost use Rattle.lent.specs.Kept.{most_records};
+ghost use Rattle.std.specs.Prelude.{◌≡◌, ◌+◌, ◌≤◌};
 ghost use Rattle.text.specs.Text.{text, write, Wrote};
-ghost use Rattle.script.specs.Script.{most, longest};
-ghost use Rattle.transcript.specs.Transcript.{zeros, line_of, message_lines, told_of, BeginSays, script_at, played, transcript_of, longest_text};
+ghost use Rattle.script.specs.Script.{most, most_numbers, longest};
+ghost use Rattle.transcript.specs.Transcript.{zeros, line_of, message_lines, told_of, script_at, played, transcript_of, longest_text};
 
-use bench::{Ran, run};
+use bench::run;
 use lent::{message_of, record_numbers, records_room};
 use nodes::Round;
 use records::Message;
@@ -71,49 +70,25 @@ fn tell(out: &mut Text, checked: Result<(), Refusal>, answers: &[u64], sent: &[u
     }
 }
 
-// Takes steps on a fresh bench.
-fn begin(
-    nodes: usize,
-    rows: &[u64],
-    records: &mut [u64],
-    messages: &mut [u64],
-    room: usize,
-    steps: &[u64],
-    answers: &mut [u64],
-) -> Ran
-    requires { (records.old ≡ zeros most_records) × (messages.old ≡ zeros most) × (room ≤ most) × (length steps.now ≤ length answers.old) }
-    ensures { BeginSays nodes rows.now room steps.now result messages.new answers.new }
-{
-    let size = record_numbers(nodes);
-    run(
-        nodes,
-        rows,
-        &mut records[..size],
-        &mut messages[..room],
-        0,
-        Round(0),
-        steps,
-        answers,
-    )
-}
-
-// Takes the steps of a script whose numbers and steps stand in lists, and says what came of them.
-fn play(out: &mut Text, numbers: &[u64], steps: &[u64], shape: Shape)
-    requires { (shape.rows + 2 ≤ length numbers.now) × (shape.room ≤ most) × (shape.steps ≤ length steps.now) × (shape.steps ≤ most) }
+// Takes the steps of a script whose numbers and steps stand in lists, on a fresh bench, and says what came of them.
+fn play(out: &mut Text, numbers: &[u64; NUMBERS], steps: &[u64; STEPS], shape: Shape)
+    requires { (shape.rows + 2 ≤ most_numbers) × (shape.room ≤ most) × (shape.steps ≤ most) }
     ensures { Wrote out.old out.new (played (script_at numbers.now steps.now shape)) }
 {
     let mut records = records_room();
     let mut messages = [0u64; STEPS];
     let mut answers = [0u64; STEPS];
     let nodes = shape.nodes as usize;
+    let size = record_numbers(nodes);
     let end = shape.rows + 2;
     let count = shape.steps;
-    let ran = begin(
+    let ran = run(
         nodes,
         &numbers[2..end],
-        &mut records,
-        &mut messages,
-        shape.room,
+        &mut records[..size],
+        &mut messages[..shape.room],
+        0,
+        Round(0),
         &steps[..count],
         &mut answers,
     );
