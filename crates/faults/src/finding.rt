@@ -4,7 +4,7 @@ ghost use Rattle.format.specs.Cut.{lines_of};
 ghost use Rattle.format.specs.Fields.{same as same_of};
 ghost use Rattle.faults.specs.Faults.{has as Has-of, mark};
 
-use fields::line_end;
+use fields::first_line;
 
 // Whether a byte stands in a text.
 pub fn has(s: &[u8], b: u8) -> bool
@@ -21,17 +21,17 @@ pub fn marked(file: &[u8]) -> bool
 }
 
 // A line of a file, the first being 0; nothing where there is no such line.
+#[tactic(auto, using(crate::proofs::Standing::ahead_start, crate::proofs::Standing::ahead_here, crate::proofs::Standing::ahead_next, crate::proofs::Standing::ahead_none))]
 pub fn line_at(file: &[u8], index: usize) -> &[u8]
     ensures { result.now ≡ get_or (lines_of file.now) index [] }
 {
     let mut rest = file;
-    for _k in 0..index {
-        let end = line_end(rest, 0);
-        // No line is behind this one, so none is further on.
-        if rest.len() <= end + 2 {
-            return &rest[..0];
+    for _ in 0..index {
+        // No line is left, so none is further on.
+        if rest.is_empty() {
+            return rest;
         }
-        rest = &rest[end + 2..];
+        rest = first_line(rest).1;
     }
-    &rest[..line_end(rest, 0)]
+    first_line(rest).0
 }

@@ -9,7 +9,7 @@ use native.Mathlib.Omega.{arith}
 use lib.Dec.{eqb, ltb}
 use lib.ListN.{length, get_or, take, drop, drop_of_length-le, length-drop}
 use lib.Seq.{drop-cons, drop-drop}
-use borrow.Author.Tests.{eq-eqb, ne_eqb, le-leb, lt-leb, ltb-true, ltb-false}
+use borrow.Author.Tests.{eqb-true, eq-eqb, ne_eqb, le-leb, lt-leb, ltb-true, ltb-false}
 use Rattle.std.specs.List.{slice_split}
 use Rattle.lemmas.proofs.Cases.{at_true, at_false}
 use Rattle.lemmas.proofs.Tests.{true_or_false}
@@ -164,20 +164,13 @@ first_line x (y ∷ l) = go (line_end x y) (first_line y l)
     go false e = ap (onto x) e
 
 -- as a walk goes from line to line
-pub lines_next : (s : List ℕ) (at end : ℕ) → at < length s → end ≡ at + up_to_end (drop at s)
-    → lines_of (drop at s) ≡ take (end - at) (drop at s) ∷ lines_of (drop (end + 2) s)
-lines_next s at end h e =
-    some_line (drop at s) (omega (arith, length-drop at s))
-    ∙ ap₂ (λ (n : ℕ) (ls : List (List ℕ)). take n (drop at s) ∷ ls)
-    (let q : up_to_end (drop at s) ≡ end - at = omega arith in q)
-    (ap lines_of
-    (drop-drop (suc (suc (up_to_end (drop at s)))) at s
-    ∙ ap (λ (n : ℕ). drop n s) (let q : at + suc (suc (up_to_end (drop at s))) ≡ end + 2 = omega arith in q)))
-  where
-    some_line : (l : List ℕ) → 0 < length l → lines_of l ≡ take (up_to_end l) l ∷ lines_of (drop (suc (suc (up_to_end l))) l)
-    some_line [] h = absurd (omega arith)
-    some_line (x ∷ l) h = first_line x l
+pub lines_next : (s : List ℕ) → eqb (length s) 0 ≡ false → lines_of s ≡ take (up_to_end s) s ∷ lines_of (drop (up_to_end s + 2) s)
+lines_next [] h = absurd cc
+lines_next (x ∷ l) h =
+    first_line x l
+    ∙ ap (λ (n : ℕ). take (up_to_end (x ∷ l)) (x ∷ l) ∷ lines_of (drop n (x ∷ l))) (let q : suc (suc (up_to_end (x ∷ l))) ≡ up_to_end (x ∷ l) + 2 = omega arith in q)
 
-pub lines_none : (s : List ℕ) (at : ℕ) → length s ≤ at → lines_of (drop at s) ≡ []
+pub lines_none : (s : List ℕ) → eqb (length s) 0 ≡ true → lines_of s ≡ []
 unfolding lines_of
-lines_none s at h = ap lines_of (drop_of_length-le s h)
+lines_none [] h = refl
+lines_none (x ∷ l) h = absurd (omega (arith, eqb-true _ _ h))

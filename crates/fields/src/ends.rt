@@ -1,5 +1,5 @@
 // Where a piece of a text ends: at a byte, or at CR LF.
-ghost use Rattle.std.specs.Prelude.{◌≡◌, ◌+◌, ◌≤◌, ◌<◌, length, get_or, drop};
+ghost use Rattle.std.specs.Prelude.{◌≡◌, ◌+◌, ◌≤◌, ◌<◌, length, get_or, take, drop};
 ghost use Rattle.format.specs.Cut.{line_end};
 ghost use Rattle.fields.specs.Ends.{up_to, up_to_end};
 
@@ -37,4 +37,12 @@ pub fn line_end(s: &[u8], from: usize) -> usize
         }
     }
     s.len()
+}
+
+// The first line of a text, and what stands behind its end.
+pub fn first_line(s: &[u8]) -> (&[u8], &[u8])
+    ensures { (result.0.now ≡ take (up_to_end s.now) s.now) × (result.1.now ≡ drop (up_to_end s.now + 2) s.now) }
+{
+    let end = line_end(s, 0);
+    (&s[..end], &s[(end + 2).min(s.len())..])
 }

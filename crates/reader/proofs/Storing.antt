@@ -4,13 +4,13 @@ use mathlib.Core.Bool.{true, false, cond, not, ◌||◌}
 use mathlib.Core.Logic.{⊎_elim}
 use mathlib.Core.List.{List, [], ◌∷◌, ◌++◌, append_assoc, append-nil}
 use mathlib.Core.Option.{Option as Maybe, none, some}
-use Prim.Native.Nat.{ℕ, suc, ◌+◌, ◌-◌, ◌*◌, ◌≤◌, ◌<◌}
+use Prim.Native.Nat.{ℕ, suc, ◌+◌, ◌*◌, ◌≤◌, ◌<◌}
 use native.Mathlib.Numerals.{add-one}
 use native.Mathlib.Omega.{arith}
 use lib.Dec.{eqb, ltb}
-use lib.ListN.{length, take, drop, length-append, length-replicate}
-use lib.Seq.{sets, take-nil}
-use borrow.Author.Tests.{lt-ltb, le-ltb, ltb-true, ltb-false}
+use lib.ListN.{length, take, drop, length-append, length-drop, length-replicate}
+use lib.Seq.{sets}
+use borrow.Author.Tests.{eqb-false, ne_eqb, lt-ltb, le-ltb, ltb-true, ltb-false}
 use Rattle.std.specs.Prelude.{Some, None, Result, Ok, Err}
 use Rattle.lemmas.proofs.Cases.{at_true, at_false}
 use Rattle.lemmas.proofs.Tests.{or_intro_left, or_intro_right, true_or_false}
@@ -58,50 +58,49 @@ behind_one d r line (Broken later) = refl
 behind_one d r line (Rows rs) = ap Rows (sym (append_assoc d (r ∷ []) rs))
 
 -- ---- on the way: the rows that were read, and the lines that are left
-pub record Storing (file : List ℕ) (from : ℕ) (found rows : List ℕ) (at k : ℕ) : Type 0 where
+pub record Storing (text : List ℕ) (found rows rest : List ℕ) (k : ℕ) : Type 0 where
   pub read : List Row
-  pub left : rows_from 0 (lines_of (drop from file)) ≡ behind read (rows_from k (lines_of (drop at file)))
+  pub left : rows_from 0 (lines_of text) ≡ behind read (rows_from k (lines_of rest))
   pub count : k ≡ length read
   pub stored : rows ≡ sets found 0 (flat read)
-  pub few : k ≤ at
+  pub few : k + length rest ≤ length text
 
-pub storing_start : (file : List ℕ) (from : ℕ) (found : List ℕ) → Storing file from found found from 0
+pub storing_start : (text found : List ℕ) → Storing text found found text 0
 unfolding flat
-storing_start file from found = record { read = []; left = behind_none _; count = refl; stored = refl; few = omega arith }
+storing_start text found = record { read = []; left = behind_none _; count = refl; stored = refl; few = omega arith }
 
-module _ (file : List ℕ) (from : ℕ) (found rows : List ℕ) (at k : ℕ) (s : Storing file from found rows at k) where
-  module _ {end : ℕ} (inside : at < length file) (ends : end ≡ at + up_to_end (drop at file)) where
-    split : {o : Maybe Row} → row_of k (take (end - at) (drop at file)) ≡ o
-        → rows_from 0 (lines_of (drop from file)) ≡ behind s.read (row_then (k + 2) o (rows_from (suc k) (lines_of (drop (end + 2) file))))
+module _ (text found rows rest : List ℕ) (k : ℕ) (s : Storing text found rows rest k) where
+  module _ (more : eqb (length rest) 0 ≡ false) where
+    split : {o : Maybe Row} → row_of k (take (up_to_end rest) rest) ≡ o
+        → rows_from 0 (lines_of text) ≡ behind s.read (row_then (k + 2) o (rows_from (suc k) (lines_of (drop (up_to_end rest + 2) rest))))
     unfolding rows_from
     split e =
-        s.left ∙ ap (λ (ls : List (List ℕ)). behind s.read (rows_from k ls)) (lines_next file at end inside ends)
-        ∙ ap (λ (o : Maybe Row). behind s.read (row_then (k + 2) o (rows_from (suc k) (lines_of (drop (end + 2) file))))) e
+        s.left ∙ ap (λ (ls : List (List ℕ)). behind s.read (rows_from k ls)) (lines_next rest more)
+        ∙ ap (λ (o : Maybe Row). behind s.read (row_then (k + 2) o (rows_from (suc k) (lines_of (drop (up_to_end rest + 2) rest))))) e
 
-    pub storing_broken : None ≡ row_said (row_of k (take (end - at) (drop at file)))
-        → LinesSay (rows_from 0 (lines_of (drop from file))) found rows (Err (k + 2))
+    pub storing_broken : None ≡ row_said (row_of k (take (up_to_end rest) rest)) → LinesSay (rows_from 0 (lines_of text)) found rows (Err (k + 2))
     unfolding behind LinesSay
     storing_broken e = split (told_none _ e)
 
-    pub storing_next : {r : Row} {rows' : List ℕ} → Some r ≡ row_said (row_of k (take (end - at) (drop at file)))
-        → rows' ≡ sets rows (k * row_size) (row_numbers r) → Storing file from found rows' (end + 2) (k + 1)
+    pub storing_next : {r : Row} {rows' : List ℕ} → Some r ≡ row_said (row_of k (take (up_to_end rest) rest))
+        → rows' ≡ sets rows (k * row_size) (row_numbers r) → Storing text found rows' (drop (up_to_end rest + 2) rest) (k + 1)
     storing_next {r} e f = record {
       read = s.read ++ r ∷ [];
       left =
-          split (told_row _ e) ∙ behind_one s.read r (k + 2) (rows_from (suc k) (lines_of (drop (end + 2) file)))
-          ∙ ap (λ (j : ℕ). behind (s.read ++ r ∷ []) (rows_from j (lines_of (drop (end + 2) file)))) (sym (add-one k));
+          split (told_row _ e) ∙ behind_one s.read r (k + 2) (rows_from (suc k) (lines_of (drop (up_to_end rest + 2) rest)))
+          ∙ ap (λ (j : ℕ). behind (s.read ++ r ∷ []) (rows_from j (lines_of (drop (up_to_end rest + 2) rest)))) (sym (add-one k));
       count = omega (arith, s.count, length-append s.read (r ∷ []));
       stored =
           f ∙ ap₂ (λ (l : List ℕ) (i : ℕ). sets l i (row_numbers r)) s.stored (let q : k * row_size ≡ 0 + length (flat s.read) = omega (arith, s.count, flat_length s.read) in q)
           ∙ sets_append (flat s.read) (row_numbers r) found 0 ∙ ap (sets found 0) (sym (flat_snoc s.read r));
-      few = omega (arith, s.few);
+      few = omega (arith, s.few, eqb-false _ _ more, length-drop (up_to_end rest + 2) rest);
     }
 
-  pub storing_all : length file ≤ at → LinesSay (rows_from 0 (lines_of (drop from file))) found rows (Ok k)
+  pub storing_all : eqb (length rest) 0 ≡ true → LinesSay (rows_from 0 (lines_of text)) found rows (Ok k)
   unfolding behind rows_from LinesSay
   storing_all h = (
     s.read,
-    s.left ∙ ap (λ (ls : List (List ℕ)). behind s.read (rows_from k ls)) (lines_none file at h) ∙ ap Rows (append-nil s.read),
+    s.left ∙ ap (λ (ls : List (List ℕ)). behind s.read (rows_from k ls)) (lines_none rest h) ∙ ap Rows (append-nil s.read),
     s.count,
     s.stored,
   )
@@ -116,25 +115,22 @@ unfolding open_format
 no_header_there = refl
 
 -- what the first line says of the file; an empty file has none, and an empty line is no header either
-first_line : (file : List ℕ) {end : ℕ} → end ≡ 0 + up_to_end (drop 0 file)
-    → meant_by file ≡ cond (is_header (take end file)) (rows_from 0 (lines_of (drop (end + 2) file))) (Broken 1)
-unfolding lines_of meant_by
-first_line [] {end} ends = at_false _ (ap is_header (take-nil end) ∙ no_header_there) refl
-first_line (x ∷ l) {end} ends =
-    ap under_header
-    (lines_next (x ∷ l) 0 end (omega arith) ends
-    ∙ ap (λ (n : ℕ). take n (x ∷ l) ∷ lines_of (drop (end + 2) (x ∷ l))) (let q : end - 0 ≡ end = omega arith in q))
+first_said : (file : List ℕ)
+    → meant_by file ≡ cond (is_header (take (up_to_end file) file)) (rows_from 0 (lines_of (drop (up_to_end file + 2) file))) (Broken 1)
+unfolding lines_of meant_by up_to_end
+first_said [] = at_false _ no_header_there refl
+first_said (x ∷ l) = ap under_header (lines_next (x ∷ l) (ne_eqb _ 0 (omega arith)))
 
-module _ (file : List ℕ) {end : ℕ} (ends : end ≡ 0 + up_to_end (drop 0 file)) where
-  pub no_header : is_header (take end file) ≡ false → (found rows : List ℕ) → LinesSay (meant_by file) found rows (Err 1)
+module _ (file : List ℕ) where
+  pub no_header : is_header (take (up_to_end file) file) ≡ false → (found rows : List ℕ) → LinesSay (meant_by file) found rows (Err 1)
   unfolding LinesSay
-  no_header e found rows = first_line file ends ∙ sym (at_false (rows_from 0 (lines_of (drop (end + 2) file))) e refl)
+  no_header e found rows = first_said file ∙ sym (at_false (rows_from 0 (lines_of (drop (up_to_end file + 2) file))) e refl)
 
-  under : is_header (take end file) ≡ true → rows_from 0 (lines_of (drop (end + 2) file)) ≡ meant_by file
-  under e = at_true (Broken 1) e refl ∙ sym (first_line file ends)
+  under : is_header (take (up_to_end file) file) ≡ true → rows_from 0 (lines_of (drop (up_to_end file + 2) file)) ≡ meant_by file
+  under e = at_true (Broken 1) e refl ∙ sym (first_said file)
 
-  pub under_header_lem : is_header (take end file) ≡ true → (found rows : List ℕ) (a : Result ℕ ℕ) → LinesSay (rows_from 0 (lines_of (drop (end + 2) file))) found rows a
-      → LinesSay (meant_by file) found rows a
+  pub under_header_lem : is_header (take (up_to_end file) file) ≡ true → (found rows : List ℕ) (a : Result ℕ ℕ)
+      → LinesSay (rows_from 0 (lines_of (drop (up_to_end file + 2) file))) found rows a → LinesSay (meant_by file) found rows a
   unfolding LinesSay
   under_header_lem e found rows (Err line) s = sym (under e) ∙ s
   under_header_lem e found rows (Ok n) s = (s.0, sym (under e) ∙ s.1, s.2, s.3)

@@ -1,5 +1,5 @@
 // A file of waits, from its bytes to the graph that it says, or to what is wrong with it.
-ghost use Rattle.std.specs.Prelude.{◌≡◌, ◌*◌, drop};
+ghost use Rattle.std.specs.Prelude.{◌≡◌, ◌*◌};
 ghost use Rattle.std.proofs.lemmas.List.Edits.{sets};
 ghost use Rattle.waits.specs.Rows.{row_size, row_numbers};
 ghost use Rattle.format.specs.Cut.{lines_of};
@@ -8,7 +8,7 @@ ghost use Rattle.reader.specs.declared.files.Wrong.TheVariants.{Refused};
 ghost use Rattle.reader.specs.Answers.{LinesSay, graph_judged, file_said, told_as};
 
 use crate::lines::{header, row};
-use fields::line_end;
+use fields::first_line;
 use nodes::{Node, PLACES};
 use waits::{ROW, Reason, Refusal, Row, check, put_row};
 
@@ -56,32 +56,33 @@ fn keep(rows: &mut [u64; NUMBERS], k: usize, row: Row)
     }
 }
 
-// Reads the lines from a place on as rows, and stores them. Gives how many there are, or the line that breaks a rule.
-fn read_rows(file: &[u8], from: usize, rows: &mut [u64; NUMBERS]) -> Result<usize, usize>
-    ensures { LinesSay (rows_from 0 (lines_of (drop from file.now))) rows.old rows.new result }
+// Reads the lines of a text as rows, and stores them. Gives how many there are, or the line that breaks a rule.
+#[tactic(auto, using(crate::proofs::Storing::storing_start, crate::proofs::Storing::storing_broken, crate::proofs::Storing::storing_next, crate::proofs::Storing::storing_all))]
+fn read_rows(text: &[u8], rows: &mut [u64; NUMBERS]) -> Result<usize, usize>
+    ensures { LinesSay (rows_from 0 (lines_of text.now)) rows.old rows.new result }
 {
-    let mut at = from;
+    let mut rest = text;
     let mut k: usize = 0;
-    // From one line to the next the place jumps, so no range has all of them.
-    while at < file.len() {
-        let end = line_end(file, at);
-        let r = row(&file[at..end], k).ok_or(k + 2)?;
+    while !rest.is_empty() {
+        let (line, behind) = first_line(rest);
+        let r = row(line, k).ok_or(k + 2)?;
         keep(rows, k, r);
         k += 1;
-        at = end + 2;
+        rest = behind;
     }
     Ok(k)
 }
 
 // Reads all lines of a file. An empty file is read as one empty line, which is no header.
+#[tactic(auto, using(crate::proofs::Storing::no_header, crate::proofs::Storing::under_header_lem))]
 fn read_lines(file: &[u8], rows: &mut [u64; NUMBERS]) -> Result<usize, usize>
     ensures { LinesSay (meant_by file.now) rows.old rows.new result }
 {
-    let end = line_end(file, 0);
-    if !header(&file[..end]) {
+    let (line, behind) = first_line(file);
+    if !header(line) {
         return Err(1);
     }
-    read_rows(file, end + 2, rows)
+    read_rows(behind, rows)
 }
 
 // Judges the graph of so many rows, of which those that a graph can have are stored.

@@ -30,7 +30,8 @@ pub fn good_steps(list: &[u64]) -> bool
     ensures { result ≡ good_steps list.now }
 {
     for k in 0..list.len() / 3 {
-        if !good_step(list[3 * k], list[3 * k + 1], list[3 * k + 2]) {
+        let at = 3 * k;
+        if !good_step(list[at], list[at + 1], list[at + 2]) {
             return false;
         }
     }
@@ -43,6 +44,7 @@ pub fn code_steps(list: &[u64], steps: &mut [u64])
     ensures { steps.new ≡ sets steps.old 0 (steps_of list.now) }
 {
     for k in 0..list.len() / 3 {
-        steps[k] = step(list[3 * k], list[3 * k + 1], list[3 * k + 2]);
+        let at = 3 * k;
+        steps[k] = step(list[at], list[at + 1], list[at + 2]);
     }
 }

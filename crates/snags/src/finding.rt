@@ -46,13 +46,14 @@ fn step_snag(list: &[u64]) -> Result<(), Snag>
     ensures { result ≡ step_snag 0 list.now }
 {
     for j in 0..list.len() / 3 {
-        if KINDS <= list[3 * j] {
+        let at = 3 * j;
+        if KINDS <= list[at] {
             return Err(Snag::Kind(j));
         }
-        if PARTS <= list[3 * j + 1] {
+        if PARTS <= list[at + 1] {
             return Err(Snag::First(j));
         }
-        if PARTS <= list[3 * j + 2] {
+        if PARTS <= list[at + 2] {
             return Err(Snag::Second(j));
         }
     }

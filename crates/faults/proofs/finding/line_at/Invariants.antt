@@ -2,5 +2,5 @@
 use Rattle.faults.proofs.Standing.{Ahead}
 use Rattle.faults.proofs.finding.line_at.Given as goal
 
-abbrev pub invariant-loop-k : goal.invariant-loop-k
-invariant-loop-k l = Ahead l.file l.index l.rest l._k
+abbrev pub invariant-loop : goal.invariant-loop
+invariant-loop l = Ahead l.file l.index l.rest l.counter

@@ -1,25 +1,27 @@
 -- `read_rows` meets its contract. Assumes nothing.
-use mathlib.Core.Path.{◌≡◌, sym, ◌∙◌}
-use Prim.Native.Nat.{◌+◌}
+use mathlib.Core.Bool.{not}
+use mathlib.Core.List.{List}
+use mathlib.Core.Path.{◌≡◌, sym, ap, ◌∙◌}
+use Prim.Native.Nat.{ℕ, ◌+◌}
 use native.Mathlib.Omega.{arith}
-use Rattle.std.specs.Prelude.{Some, None}
+use borrow.Author.Tests.{not-true, not-false}
+use Rattle.std.specs.Prelude.{None}
 use Rattle.std.proofs.lemmas.Result.{err_from_is_err_and}
-use Rattle.reader.proofs.Storing.{storing_start, storing_broken, storing_next, storing_all}
+use Rattle.lemmas.proofs.Cases.{flag}
+use Rattle.format.specs.Files.{row_of}
+use Rattle.reader.specs.Answers.{row_said}
+use Rattle.reader.proofs.Storing.{storing_broken, storing_all}
 use Rattle.reader.proofs.files.read_rows.Goals as goal
-
-pub loop-at-init : goal.loop-at-init
-loop-at-init c = storing_start _ _ _
 
 pub returns-in_err-r : goal.returns-in_err-r
 returns-in_err-r c =
     let n : c.row.result ≡ None = grind arith in
     let p = err_from_is_err_and c.from_residual.result c.from_residual.ensures.1 in
     let v = rw n at c.in_err-r.ensures.value in
-    let q : c.in_err-r.field-0.0 ≡ c.loop-at.k + 2 = cc in
-    rw (p.1, p.2, q) (storing_broken _ _ _ _ _ _ c.loop-at.invariant c.loop-at-test.true c.line_end-end.ensures.0 (sym n ∙ c.row.ensures))
-
-pub loop-at-preserved : goal.loop-at-preserved
-loop-at-preserved c = storing_next _ _ _ _ _ _ c.loop-at.invariant c.loop-at-test.true c.line_end-end.ensures.0 (let s : c.row.result ≡ Some c.in_ok-r.r = grind arith in sym s ∙ c.row.ensures) c.keep.ensures
+    let q : c.in_err-r.field-0.0 ≡ c.loop-rest.k + 2 = cc in
+    rw (p.1, p.2, q)
+    (storing_broken _ _ _ _ _ c.loop-rest.invariant (flag c.is_empty.ensures (not-true _ (ap not c.loop-rest-test.true)))
+    (sym n ∙ c.row.ensures ∙ ap (λ (l : List ℕ). row_said (row_of c.loop-rest.k l)) c.first_line.ensures.0))
 
 pub returns : goal.returns
-returns c = storing_all _ _ _ _ _ _ c.loop-at.invariant c.loop-at-test.false
+returns c = storing_all _ _ _ _ _ c.loop-rest.invariant (flag c.is_empty.ensures (not-false _ (ap not c.loop-rest-test.false)))
