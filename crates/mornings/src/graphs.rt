@@ -1,4 +1,6 @@
 // Graphs, row by row. Sets are written in binary: the last digit is node 0.
+ghost use Rattle.std.specs.Prelude.{◌≡◌, length};
+
 use crate::parts::checked;
 use std::io;
 use waits::ROW;
@@ -19,7 +21,9 @@ pub fn one_of(set: u64) -> [u64; 6] {
 }
 
 // Ten rows, one after the other.
-pub fn flat(rows: [[u64; 6]; 10]) -> [u64; 60] {
+pub fn flat(rows: [[u64; 6]; 10]) -> [u64; 60]
+    ensures { length result ≡ 60 }
+{
     let mut flat = [0u64; 60];
     flat.copy_from_slice(rows.as_flattened());
     flat
