@@ -30,14 +30,14 @@ def enums(text):
 
 def functions(text):
     """Name, parameters, result, clauses and body of each function."""
-    for found in re.finditer(r"\bfn (\w+)(?:<[^(]*>)?\(", text):
+    for found in re.finditer(r"\bfn (\w+)(?:<.*?>)?\((?=[^)]*:|\)|&|self|mut )", text):
         at, depth = found.end(), 1
         while depth:
             depth += {"(": 1, ")": -1}.get(text[at], 0)
             at += 1
         parameters = " ".join(text[found.end():at - 1].split())
         body = re.compile(r"^\s*\{\s*$|\) *(?:-> [^{\n]*)?\{\s*$", re.M).search(text, at - 1)
-        if not body:
+        if not body or re.search(r"\bfn \w", text[at:body.start()]):
             continue
         head = text[at:body.start()]
         begin, depth, end = body.end(), 1, body.end()
@@ -100,7 +100,7 @@ def four():
         for name, parameters, head, body in functions(text):
             if HANDS.match(name):
                 yield path, "%s(%s)" % (name, parameters)
-            elif re.search(r"\bmatch\b", body) and len(re.findall(r"=> (?:bytes|text)\(|=> b\"", body)) >= 3:
+            elif re.search(r"\bmatch\b", body) and len(re.findall(r"=>\s*(?:\w+\.)?(?:bytes|text|print!)\(|=>\s*b?\"", body)) >= 3:
                 yield path, "%s: words printed by hand" % name
 
 
