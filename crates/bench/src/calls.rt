@@ -80,8 +80,8 @@ fn take_steps(bench: &mut AtWork, steps: &[u64], answers: &mut [u64])
     ensures same_lists { SameLists bench.old bench.new }
     ensures taken { the_run (state_at_work bench.new) answers.new (Ok tt) ≡ the_run (run_on bench.old.graph.nodes bench.old.graph.rows.now (state_at_work bench.old) steps.now) (sets answers.old 0 (answers_on bench.old.graph.nodes bench.old.graph.rows.now (state_at_work bench.old) steps.now)) (Ok tt) }
 {
-    for j in 0..steps.len() {
-        let answer = bench.take_step(step_of(steps[j]));
+    for (j, &x) in steps.iter().enumerate() {
+        let answer = bench.take_step(step_of(x));
         answers[j] = answer_number(bench.sent, answer);
     }
 }

@@ -2,6 +2,7 @@
 ghost use Rattle.std.specs.Prelude.{◌≡◌, length};
 
 use crate::parts::checked;
+use nodes::{Node, Set};
 use std::io;
 use waits::ROW;
 
@@ -29,29 +30,17 @@ pub fn flat(rows: [[u64; 6]; 10]) -> [u64; 60]
     flat
 }
 
-// Eight of the first nine nodes: all but node k, for k from 0 to 8.
-const EIGHT: [u64; 9] = [
-    0b1_1111_1110,
-    0b1_1111_1101,
-    0b1_1111_1011,
-    0b1_1111_0111,
-    0b1_1110_1111,
-    0b1_1101_1111,
-    0b1_1011_1111,
-    0b1_0111_1111,
-    0b0_1111_1111,
-];
-
-// Eight nodes other than k.
-fn eight(k: usize) -> u64 {
-    EIGHT[k.min(8)]
+// Eight nodes other than k, among the first nine.
+fn eight(k: usize) -> Set {
+    let other = Set::empty().with(Node(k.min(8)));
+    Set::below(9).minus(other)
 }
 
 // 64 nodes that wait on eight others each: 512 edges.
 pub fn eight_each() -> [u64; 384] {
     let mut rows = [0u64; 384];
     for k in 0..64 {
-        put(&mut rows, k, one_of(eight(k)));
+        put(&mut rows, k, one_of(eight(k).0));
     }
     rows
 }

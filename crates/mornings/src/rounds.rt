@@ -98,8 +98,7 @@ fn begin(
 ) -> io::Result<()> {
     let size = record_numbers(nodes);
     if size <= records.len() {
-        let none = [0u8; 0];
-        full_round(rt, nodes, rows, &mut records[..size], messages, node, &none)?;
+        full_round(rt, nodes, rows, &mut records[..size], messages, node, &[])?;
     }
     Ok(())
 }
