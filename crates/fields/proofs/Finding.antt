@@ -9,8 +9,12 @@ use native.Mathlib.Omega.{arith}
 use lib.Dec.{eqb, ltb}
 use lib.ListN.{length, get_or, take, drop, drop_of_length-le, length-drop}
 use lib.Seq.{drop-cons, drop-drop}
-use borrow.Author.Tests.{eqb-true, eq-eqb, ne_eqb, le-leb, lt-leb, ltb-true, ltb-false}
-use Rattle.std.specs.List.{slice_split}
+use borrow.Author.Tests.{eqb-true, le-leb, lt-leb, ltb-true, ltb-false}
+use Rattle.std.specs.Prelude.{Option, Some, None}
+use Rattle.std.specs.Option.{unwrap_or}
+use Rattle.std.specs.List.{slice_split, position_or_len}
+use Rattle.std.proofs.lemmas.Grind.{common_steps}
+use Rattle.std.proofs.lemmas.List.Recursion.{is_position_or_len}
 use Rattle.lemmas.proofs.Cases.{at_true, at_false}
 use Rattle.lemmas.proofs.Tests.{true_or_false}
 use Rattle.format.specs.Cut.{line_end, onto, pieces, lines_of}
@@ -21,19 +25,6 @@ pub here : (s : List ℕ) (i : ℕ) → i < length s → drop i s ≡ get_or s i
 here s i h = drop-cons s i 0 h ∙ ap (λ (k : ℕ). get_or s i 0 ∷ drop k s) (sym (add-one i))
 
 -- ---- a byte
-module _ (b i : ℕ) (s : List ℕ) where
-  pub up_end : length s ≤ i → up_to b (drop i s) ≡ 0
-  unfolding up_to
-  up_end h = ap (up_to b) (drop_of_length-le s h)
-
-  pub up_found : i < length s → get_or s i 0 ≡ b → up_to b (drop i s) ≡ 0
-  unfolding up_to
-  up_found h e = ap (up_to b) (here s i h) ∙ sym (at_true (suc (up_to b (drop (i + 1) s))) (eq-eqb (get_or s i 0) b e) refl)
-
-  pub up_on : i < length s → (get_or s i 0 ≡ b → ⊥) → up_to b (drop i s) ≡ suc (up_to b (drop (i + 1) s))
-  unfolding up_to
-  up_on h n = ap (up_to b) (here s i h) ∙ sym (at_false 0 (ne_eqb (get_or s i 0) b n) refl)
-
 pub up_le : (b : ℕ) (l : List ℕ) → up_to b l ≤ length l
 unfolding up_to
 up_le b [] = omega arith
@@ -42,6 +33,19 @@ up_le b (x ∷ l) = go (eqb x b) (up_le b l)
     go : (t : Bool) → up_to b l ≤ length l → cond t 0 (suc (up_to b l)) ≤ suc (length l)
     go true h = omega arith
     go false h = omega arith
+
+up_first : (b : ℕ) (l : List ℕ) → up_to b l ≡ position_or_len (λ x. eqb x b) l
+unfolding up_to
+up_first b = is_position_or_len (up_to b) (λ x. eqb x b) refl (λ x l. ap (cond (eqb x b) 0) (let q : suc (up_to b l) ≡ 1 + up_to b l = omega arith in q))
+
+-- where a byte stands, if it stands there at all; or else the end
+pub found_or_end : (b : ℕ) (l : List ℕ) (o : Option ℕ)
+    → o ≡ cond (ltb (position_or_len (λ x. eqb x b) l) (length l)) (Some (position_or_len (λ x. eqb x b) l)) None
+    → unwrap_or o (length l) ≡ up_to b l
+found_or_end b l o e = rw e (rw (← up_first b l) (within (up_to b l) (length l) (up_le b l)))
+  where
+    within : (a n : ℕ) → a ≤ n → unwrap_or (cond (ltb a n) (Some a) None) n ≡ a
+    within a n h = grind (arith, common_steps)
 
 -- the pieces behind the first
 unfoldable later_pieces : ℕ → List ℕ → List (List ℕ)

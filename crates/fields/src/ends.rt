@@ -3,17 +3,11 @@ ghost use Rattle.std.specs.Prelude.{◌≡◌, ◌+◌, ◌≤◌, ◌<◌, leng
 ghost use Rattle.format.specs.Cut.{line_end};
 ghost use Rattle.fields.specs.Ends.{up_to, up_to_end};
 
-// Where the first b stands from a place on, or the end.
-pub fn find(s: &[u8], from: usize, b: u8) -> usize
-    requires { from ≤ length s.now }
-    ensures { (result ≡ from + up_to b (drop from s.now)) × (result ≤ length s.now) }
+// Where the first b stands, or the end.
+pub fn find(s: &[u8], b: u8) -> usize
+    ensures { (result ≡ up_to b s.now) × (result ≤ length s.now) }
 {
-    for i in from..s.len() {
-        if s[i] == b {
-            return i;
-        }
-    }
-    s.len()
+    s.iter().position(|x| *x == b).unwrap_or(s.len())
 }
 
 // Whether CR LF stands at a place.
@@ -25,13 +19,12 @@ fn ends_at(s: &[u8], i: usize) -> bool
     s[i] == b'\r' && s[i + 1] == b'\n'
 }
 
-// Where the first CR LF stands from a place on, or the end.
-pub fn line_end(s: &[u8], from: usize) -> usize
-    requires { from ≤ length s.now }
-    ensures { (result ≡ from + up_to_end (drop from s.now)) × (result ≤ length s.now) }
+// Where the first CR LF stands, or the end.
+fn line_end(s: &[u8]) -> usize
+    ensures { (result ≡ up_to_end s.now) × (result ≤ length s.now) }
 {
     // The last byte has no LF behind it.
-    for i in from..s.len().saturating_sub(1) {
+    for i in 0..s.len().saturating_sub(1) {
         if ends_at(s, i) {
             return i;
         }
@@ -43,6 +36,6 @@ pub fn line_end(s: &[u8], from: usize) -> usize
 pub fn first_line(s: &[u8]) -> (&[u8], &[u8])
     ensures { (result.0.now ≡ take (up_to_end s.now) s.now) × (result.1.now ≡ drop (up_to_end s.now + 2) s.now) }
 {
-    let end = line_end(s, 0);
+    let end = line_end(s);
     (&s[..end], &s[(end + 2).min(s.len())..])
 }

@@ -6,7 +6,7 @@ mod numbers;
 mod sets;
 mod words;
 
-pub use ends::{find, first_line, line_end};
+pub use ends::{find, first_line};
 pub use numbers::number_in;
 pub use sets::set_in;
-pub use words::{bare, same};
+pub use words::bare;

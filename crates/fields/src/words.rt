@@ -1,6 +1,6 @@
-// A field without its quotes, and whether two texts are the same.
+// A field without its quotes.
 ghost use Rattle.std.specs.Prelude.{◌≡◌};
-ghost use Rattle.format.specs.Fields.{bare as bare_of, same as same_of};
+ghost use Rattle.format.specs.Fields.{bare as bare_of};
 
 // What stands between the quotes of a field, or all of it where it isn't quoted.
 pub fn bare(w: &[u8]) -> &[u8]
@@ -11,10 +11,4 @@ pub fn bare(w: &[u8]) -> &[u8]
         return w;
     }
     &w[1..end - 1]
-}
-
-pub fn same(a: &[u8], b: &[u8]) -> bool
-    ensures { result ≡ same_of a.now b.now }
-{
-    a == b
 }

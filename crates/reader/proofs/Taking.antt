@@ -1,5 +1,5 @@
 -- The fields of a line, as they are taken one after the other. Assumes nothing.
-use mathlib.Core.Path.{◌≡◌, refl, sym, ap, ◌∙◌}
+use mathlib.Core.Path.{◌≡◌, refl, sym, ap, ap₂, ◌∙◌}
 use mathlib.Core.Bool.{Bool, true, false}
 use mathlib.Core.Logic.{⊎_elim}
 use mathlib.Core.List.{List, [], ◌∷◌}
@@ -8,6 +8,7 @@ use Prim.Native.Nat.{ℕ, ◌+◌, ◌-◌, ◌≤◌, ◌<◌}
 use native.Mathlib.Omega.{arith}
 use lib.Dec.{leb, eqb}
 use lib.ListN.{length, take, drop, length-drop}
+use lib.Seq.{take_all}
 use borrow.Author.Tests.{le-leb, lt-leb, eq-eqb, ne_eqb, leb-true, leb-false, eqb-true, eqb-false}
 use Rattle.std.specs.Prelude.{Option, Some, None}
 use Rattle.std.specs.Bool.{then_some}
@@ -68,10 +69,13 @@ module _ (line : List ℕ) (from : ℕ) where
   abbrev long : ℕ
   long = up_to comma (drop from line)
 
-  pub field_is : {end : ℕ} {t : List ℕ} → end ≡ from + long → t ≡ bare (take (end - from) (drop from line))
-      → (t ≡ (field_at line from).value) × (end + 1 ≡ (field_at line from).next)
+  pub field_is : {end : ℕ} {t rest : List ℕ} → rest ≡ take (length line - from) (drop from line) → end ≡ up_to comma rest → t ≡ bare (take end rest)
+      → (t ≡ (field_at line from).value) × (from + end + 1 ≡ (field_at line from).next)
   unfolding field_at
-  field_is {end} e f = (f ∙ ap (λ (n : ℕ). bare (take n (drop from line))) (let q : end - from ≡ long = omega arith in q), ap (λ (n : ℕ). n + 1) e)
+  field_is {end} {t} {rest} r e f =
+      let whole : rest ≡ drop from line = r ∙ take_all (length line - from) (drop from line) (omega (arith, length-drop from line)) in
+      let far : end ≡ long = e ∙ ap (up_to comma) whole in
+      (f ∙ ap₂ (λ (n : ℕ) (l : List ℕ). bare (take n l)) far whole, ap (λ (n : ℕ). from + n + 1) far)
 
   abbrev others : List (List ℕ)
   others = pieces_from comma line (field_at line from).next

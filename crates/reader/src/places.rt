@@ -5,7 +5,7 @@ ghost use Rattle.std.specs.Fn.{FnOnceReturnsAt};
 ghost use Rattle.format.specs.Fields.{word_in};
 ghost use Rattle.reader.specs.Places.{field_at, place_after, answered_at, number_at, set_at};
 
-use fields::{bare, find, number_in, same, set_in};
+use fields::{bare, find, number_in, set_in};
 use nodes::Set;
 
 // What a field says, and where the next one starts.
@@ -33,11 +33,12 @@ fn read_at<T: Copy, F: FnOnce(&[u8]) -> Option<T>>(
     if line.len() < from {
         return wrong;
     }
-    let end = find(line, from, b',');
-    match read(bare(&line[from..end])) {
+    let rest = &line[from..];
+    let end = find(rest, b',');
+    match read(bare(&rest[..end])) {
         Some(value) => At {
             value,
-            next: end + 1,
+            next: from + end + 1,
         },
         None => wrong,
     }
@@ -61,5 +62,5 @@ pub fn set_at(line: &[u8], from: usize) -> At<Set>
 pub fn word_at(line: &[u8], from: usize, word: &[u8]) -> usize
     ensures { result ≡ place_after (word_in word.now) line.now from }
 {
-    read_at(line, from, (), |w| same(w, word).then_some(())).next
+    read_at(line, from, (), |w| (w == word).then_some(())).next
 }

@@ -6,4 +6,4 @@ use Rattle.fields.specs.Ends.{up_to_end}
 use Rattle.fields.proofs.ends.line_end.Given as goal
 
 abbrev pub invariant-loop-i : goal.invariant-loop-i
-invariant-loop-i l = (l.i ≤ length l.s) × (l.i + up_to_end (drop l.i l.s) ≡ l.from + up_to_end (drop l.from l.s))
+invariant-loop-i l = (l.i ≤ length l.s) × (l.i + up_to_end (drop l.i l.s) ≡ up_to_end l.s)
