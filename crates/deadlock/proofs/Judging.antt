@@ -27,7 +27,6 @@ use Rattle.deadlock.specs.Evidence.{first_satisfied, judgement, judged, judged_o
 use Rattle.deadlock.proofs.Passing.{passes_iff}
 use Rattle.deadlock.proofs.Cases.{entry_node, entries_nodes}
 use Rattle.deadlock.proofs.Refused.{list_accepted}
-use Rattle.deadlock.proofs.Answers.{list_shaped}
 
 module _ (w : Waits) (g : ℕ) where
   -- ---- a walk that asks one member after another: the answer is that of the members from a place on
@@ -163,4 +162,4 @@ module _ (n : ℕ) (rows : List ℕ) (i : ℕ) (l : List ℕ) where
 -- what the walk and the check of a list cite
 pub ruleset first_walk = (first_passed, first_found, first_ended, entry_node)
 
-pub ruleset judging = (judged_refused, judged_as, list_shaped)
+pub ruleset judging = (judged_refused, judged_as)

@@ -4,9 +4,9 @@ ghost use Rattle.nodes.specs.Sets.{Inside, below, members, size, set_of};
 ghost use Rattle.nodes.specs.Words.{num, places};
 ghost use Rattle.waits.specs.Graph.{graph_of};
 ghost use Rattle.deadlock.specs.Sweeps.{knot as knot_of};
-ghost use Rattle.deadlock.specs.Refusals.{strange_entry};
 ghost use Rattle.deadlock.specs.Evidence.{WrittenSays, first_satisfied, judgement, judged_of};
 
+use crate::offer::Offer;
 use crate::reach::ahead;
 use crate::reduce::stuck;
 use crate::refusals::{check_list, check_room, named};
@@ -64,47 +64,46 @@ pub fn write_evidence(
     Ok(write(knot(graph, i), room))
 }
 
-// The set of the nodes that a list names.
-#[tactic(auto, using(crate::proofs::Cases::naming))]
-fn set_of(graph: Graph, list: &[u8]) -> Set
-    requires { strange_entry graph.nodes list.now ≡ false }
-    ensures { num result ≡ set_of list.now }
-{
-    let mut s = Set::empty();
-    for &entry in list {
-        s = s.with(named(entry));
-    }
-    s
-}
-
-// The first member, in the list's order, whose condition holds when the nodes of g grant; with none the list passes.
-#[tactic(auto, using(crate::proofs::Judging::first_walk))]
-fn first_satisfied(graph: Graph, list: &[u8], g: Set) -> Judged
-    requires { strange_entry graph.nodes list.now ≡ false }
-    ensures { result ≡ first_satisfied (graph_of graph.entry) (num g) list.now }
-{
-    for at in 0..list.len() {
-        let member = named(list[at]);
-        if holds(graph.row(member), g) {
-            return Judged::MemberSatisfied(member);
+impl<'a> Offer<'a> {
+    // The set of the nodes that the list names.
+    #[tactic(auto, using(crate::proofs::Cases::naming))]
+    fn set_of(self) -> Set
+        ensures { num result ≡ set_of self.entry.list.now }
+    {
+        let mut s = Set::empty();
+        for &entry in self.list {
+            s = s.with(named(entry));
         }
+        s
     }
-    Judged::Passes
-}
 
-// What is said of a list of nodes that is offered for i: whether i is in it comes before what its members need.
-#[tactic(auto, unfolding(crate::specs::Evidence::judgement, waits::specs::Deadlocked::outside))]
-fn judge(graph: Graph, i: Node, list: &[u8]) -> Judged
-    requires { strange_entry graph.nodes list.now ≡ false }
-    ensures { result ≡ judgement (graph_of graph.entry) i.0 list.now }
-{
-    let all = Set::below(graph.nodes);
-    let members = set_of(graph, list);
-    let outside = all.minus(members);
-    if !members.has(i) {
-        return Judged::ClaimMissing;
+    // The first member, in the list's order, whose condition holds when the nodes of g grant; with none the list passes.
+    #[tactic(auto, using(crate::proofs::Judging::first_walk))]
+    fn first_satisfied(self, g: Set) -> Judged
+        ensures { result ≡ first_satisfied (graph_of self.entry.graph) (num g) self.entry.list.now }
+    {
+        for at in 0..self.list.len() {
+            let member = named(self.list[at]);
+            if holds(self.graph.row(member), g) {
+                return Judged::MemberSatisfied(member);
+            }
+        }
+        Judged::Passes
     }
-    first_satisfied(graph, list, outside)
+
+    // What is said of the list when it is offered for i: whether i is in it comes before what its members need.
+    #[tactic(auto, unfolding(crate::specs::Evidence::judgement, waits::specs::Deadlocked::outside))]
+    fn judge(self, i: Node) -> Judged
+        ensures { result ≡ judgement (graph_of self.entry.graph) i.0 self.entry.list.now }
+    {
+        let all = Set::below(self.graph.nodes);
+        let members = self.set_of();
+        let outside = all.minus(members);
+        if !members.has(i) {
+            return Judged::ClaimMissing;
+        }
+        self.first_satisfied(outside)
+    }
 }
 
 // Whether a list passes as evidence for i, whoever wrote it; and if it doesn't, why.
@@ -112,6 +111,6 @@ fn judge(graph: Graph, i: Node, list: &[u8]) -> Judged
 pub fn check_evidence(nodes: usize, rows: &[u64], i: Node, list: &[u8]) -> Result<Judged, Refusal>
     ensures { result ≡ judged_of nodes rows.now i.0 list.now }
 {
-    let graph = check_list(nodes, rows, i, list)?;
-    Ok(judge(graph, i, list))
+    let offer = check_list(nodes, rows, i, list)?;
+    Ok(offer.judge(i))
 }

@@ -3,6 +3,7 @@
 
 mod claims;
 mod evidence;
+mod offer;
 mod reach;
 mod reduce;
 mod refusals;

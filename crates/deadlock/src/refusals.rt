@@ -3,7 +3,9 @@ ghost use Rattle.std.specs.Prelude.{◌≡◌};
 ghost use Rattle.lemmas.specs.Lists.{ascending};
 ghost use Rattle.waits.specs.Graph.{GraphSays};
 ghost use Rattle.deadlock.specs.Refusals.{strange_entry, check_node_of, check_list_of, check_room_of};
+ghost use Rattle.deadlock.specs.Offer.{OfferSays};
 
+use crate::offer::Offer;
 use nodes::Node;
 use waits::{Graph, Reason, Refusal, refused_if};
 
@@ -44,14 +46,14 @@ pub fn check_list<'a>(
     nodes: usize,
     rows: &'a [u64],
     i: Node,
-    list: &[u8],
-) -> Result<Graph<'a>, Refusal>
-    ensures { GraphSays (check_list_of nodes rows.now i.0 list.now) nodes rows.now result }
+    list: &'a [u8],
+) -> Result<Offer<'a>, Refusal>
+    ensures { OfferSays (check_list_of nodes rows.now i.0 list.now) nodes rows.now list.now result }
 {
     let graph = check_node(nodes, rows, i)?;
     refused_if(strange_entry(nodes, list), Reason::StrangeEntry, Node(0))?;
     refused_if(!ascends(list), Reason::NotAscending, Node(0))?;
-    Ok(graph)
+    Ok(Offer { graph, list })
 }
 
 // A question about node i with lent room: the graph, 9, then 15.

@@ -2,7 +2,7 @@
 use Rattle.nodes.specs.Words.{num}
 use Rattle.waits.specs.Graph.{graph_of}
 use Rattle.deadlock.proofs.Judging.{FirstLeft}
-use Rattle.deadlock.proofs.evidence.first_satisfied.Given as goal
+use Rattle.deadlock.proofs.offer.Offer.first_satisfied.Given as goal
 
 abbrev pub invariant-loop-at : goal.invariant-loop-at
-invariant-loop-at l = FirstLeft (graph_of l.graph) (num l.g) l.list l.at
+invariant-loop-at l = FirstLeft (graph_of l.self.graph) (num l.g) l.self.list.now l.at
