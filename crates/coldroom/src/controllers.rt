@@ -34,7 +34,9 @@ fn put_sends(sends: &mut [u64; 4], to: Sends)
     sends[3] = to.done.0;
 }
 
-// Writes what a controller did, if it did anything, and hands back its answer.
+// Writes what a controller did, if it did anything, and hands back its answer. The hint spares both calls a copy of what a step hands
+// back.
+#[inline(always)]
 fn leave(kept: &mut [u64; 7], sends: &mut [u64; 4], stepped: Stepped) -> u64
     requires { SmallAnswer stepped.answer }
     ensures { Leaves (outcome_of stepped) kept.old sends.old kept.new sends.new result }

@@ -19,7 +19,9 @@ fn wrong_own(nodes: usize, numbers: usize) -> bool
 }
 
 impl<'a> Told<'a> {
-    // The count, the node's own number, and its row: 1, 9, then 2 to 7.
+    // The count, the node's own number, and its row: 1, 9, then 2 to 7. The hints here and on `check_kept` spare both calls a copy of all
+    // that a controller is told.
+    #[inline(always)]
     #[tactic(auto, using(crate::proofs::Refused::right_own), unfolding(crate::specs::Refusals::check_own_of, nodes::specs::Sets::no_node, waits::specs::Numbers::check_row_of))]
     fn check_own(&self) -> Result<(), Refusal>
         ensures { result ≡ check_own_of self.now.nodes self.now.me.0 self.now.row.now }
@@ -42,6 +44,7 @@ impl<'a> Told<'a> {
     }
 
     // The same, then 13 for what the controller keeps.
+    #[inline(always)]
     #[tactic(auto, using(crate::proofs::Last::kept_own, crate::proofs::Last::kept_line, crate::proofs::Refused::own_accepted))]
     fn check_kept(&self) -> Result<(), Refusal>
         ensures { result ≡ check_kept_of self.now.nodes self.now.me.0 self.now.row.now (num self.now.ins) (state_of self.now.kept) }

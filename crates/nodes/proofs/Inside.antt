@@ -10,9 +10,9 @@ use lib.Dec.{eqb}
 use lib.Pow.{pow_pos}
 use borrow.Author.Tests.{eqb-true, eq-eqb}
 use Rattle.lemmas.proofs.Tests.{same_test}
-use Rattle.nodes.specs.Sets.{bit, In, union, meet, minus, single, with, below, inside, Inside, keep}
-use Rattle.nodes.proofs.Bit.{in_lt, bit_le, in_or_out, bit_above, bit_mod, same, bit_empty, empty_same}
-use Rattle.nodes.proofs.Operations.{bit_meet, bit_union, bit_minus, bit_single_other, with_union, bit_with, in_with, below_lt, in_below}
+use Rattle.nodes.specs.Sets.{bit, In, has, union, meet, minus, single, with, below, inside, Inside, keep}
+use Rattle.nodes.proofs.Bit.{in_lt, bit_le, in_or_out, bit_above, bit_mod, has_in, in_has, same, bit_empty, empty_same}
+use Rattle.nodes.proofs.Operations.{bit_meet, bit_union, bit_minus, bit_single_other, with_union, bit_with, bit_with_same, in_with, below_lt, in_below}
 
 pub inside_of : (a b : ℕ) → inside a b ≡ true → Inside a b
 unfolding inside
@@ -43,6 +43,12 @@ single_inside s k j = omega (arith, bit_with s k j)
 
 pub with_inside : (s k t : ℕ) → Inside s t → In k t → Inside (with s k) t
 with_inside s k t i m = inside_in (with s k) t (λ j q. ⊎_elim (λ (e : In j s). inside_member s t j i e) (λ (e : j ≡ k). rw e m) ((in_with s k j).0 q))
+
+-- a node is in a set if the set of it alone lies inside
+pub with_has : (s k : ℕ) → inside (with 0 k) s ≡ has s k
+with_has s k = same_test (inside (with 0 k) s) (has s k)
+    (λ e. in_has s k (inside_member (with 0 k) s k (inside_of (with 0 k) s e) (bit_with_same 0 k)))
+    (λ e. of_inside (with 0 k) s (with_inside 0 k s (λ j. rw (bit_empty j) (omega arith)) (has_in s k e)))
 
 pub single_below : (n k : ℕ) → k < n → Inside (single k) (below n)
 single_below n k h = inside_in (single k) (below n) (λ j i. (in_below n j).1 (rw (single_only k j i) h))

@@ -1,8 +1,8 @@
 // Nodes, rounds, and sets of nodes. Nothing outside this crate shifts or masks.
-#![tactic(auto, unfolding(crate::specs::Words::num, crate::specs::Words::to_come, crate::specs::Sets::bit, crate::specs::Sets::union, crate::specs::Sets::meet, crate::specs::Sets::minus, crate::specs::Sets::inside))]
+#![tactic(auto, unfolding(crate::specs::Words::num, crate::specs::Words::to_come, crate::specs::Sets::union, crate::specs::Sets::meet, crate::specs::Sets::minus, crate::specs::Sets::inside))]
 
 ghost use Rattle.std.specs.Prelude.{◌≡◌, ◌<◌, ◌≤◌, eqb, MatchOption, [], ◌∷◌};
-ghost use Rattle.nodes.specs.Sets.{bit, has, union, meet, minus, with, below, inside, members, size};
+ghost use Rattle.nodes.specs.Sets.{has, union, meet, minus, with, below, inside, members, size};
 ghost use Rattle.nodes.specs.Words.{places, num, first_of, to_come};
 
 // How many places a set has.
@@ -32,19 +32,12 @@ impl Set {
         self.0 == 0
     }
 
-    // The digit of place k: 1 where it is in the set, 0 where not.
-    fn digit(self, k: usize) -> u64
-        requires { k < places }
-        ensures { result ≡ bit (num self) k }
-    {
-        (self.0 >> k) % 2
-    }
-
     // No set has a member past the places, so any number may be asked for.
+    #[tactic(auto, using(crate::proofs::Inside::with_has))]
     pub fn has(self, k: Node) -> bool
         ensures { result ≡ has (num self) k.0 }
     {
-        k.0 < PLACES && self.digit(k.0) == 1
+        k.0 < PLACES && Set::empty().with(k).inside(self)
     }
 
     pub fn with(self, k: Node) -> Set

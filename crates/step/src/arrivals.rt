@@ -23,7 +23,8 @@ fn saying(end: End, answer: Answer) -> Stepped
     }
 }
 
-// Opens a round that isn't refused.
+// Opens a round that isn't refused. The hint spares the caller a copy of what is handed back.
+#[inline(always)]
 #[tactic(auto, using(crate::proofs::Fits::open_fits), unfolding(crate::specs::Step::open_round))]
 pub fn open_round(own: Own, round: Round) -> Stepped
     ensures { outcome_of result ≡ open_round (seen_of own) round.0 }
