@@ -97,10 +97,14 @@ pub fn fail<W: Write>(errors: &mut W, what: &[u8], why: Error) {
     let _ = write_all(errors, b"\n");
 }
 
-// The same behind a program's name.
+// The same behind a program's name, in one write with it; of a name and what can't be done as much as there is room for.
 fn cannot<W: Write>(errors: &mut W, name: &[u8], what: &[u8], why: Error) {
-    let _ = write_all(errors, name);
-    fail(errors, what, why);
+    let mut room = [0u8; WORDS];
+    let mut named = Cursor::new(&mut room[..]);
+    let _ = write_all(&mut named, name);
+    let _ = write_all(&mut named, what);
+    let length = (named.position() as usize).min(WORDS);
+    fail(errors, &room[..length], why);
 }
 
 // What a program does that answers its input: it reads all of that into a room, writes what answers it, and then says behind its name what
