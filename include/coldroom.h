@@ -3,7 +3,7 @@
  * Each call of the library is proved to do what is said of it here for every input, bad input too: nothing undefined happens, it
  * ends, and a call that is refused leaves all lent memory as it was. There is no heap, no state between calls and no other library.
  * Calls on different memory may run at the same time. No call needs more than 2,048 bytes of stack on x86-64; a controller's two
- * calls need 792 and 1,256, and docs/SPEED.md has each.
+ * calls need 584 and 1,144, and docs/SPEED.md has each.
  *
  * The functions that stand here with their code, `static inline`, only save a caller from writing them again: they are plain C, not
  * proved, and small enough to be read.
